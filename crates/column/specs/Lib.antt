@@ -1,0 +1,4 @@
+pub mod Sum
+pub mod Column
+pub mod Step
+pub mod Demand

@@ -1,0 +1,258 @@
+-- An accepted action leaves a sound ledger sound.
+use mathlib.Core.Path.{_≡_, refl, sym, ap, _∙_, subst}
+use mathlib.Core.Logic.{_⊎_, inl, inr}
+use mathlib.Core.Bool.{Bool, true, false, _&&_, not}
+use mathlib.Core.List.{List}
+use Prim.Native.Nat.{ℕ, _+_, _-_, _≤_, _<_}
+use native.Mathlib.Decide.{ℕ-discrete}
+use native.Mathlib.Omega.{arith}
+use borrow.Author.Tests.{eqb-true, leb-true, not-false}
+use lib.Dec.{eqb, leb, lit<}
+use lib.ListN.{getD, length-set}
+use lib.Seq.{getD-set-same, getD-set-other}
+use Rattle.words.specs.Lists.{within}
+use Rattle.words.proofs.Laws.{lt-or-le, part-at, part-length, within-at, all-at, and-left, and-right}
+use Rattle.rules.specs.Pick.{pick}
+use Rattle.rules.specs.Numbers.{profiles, mostEntity, mostMegawatts, endSecond, entity, availablePart, displacedPart, approved, ACCEPTED, CR-ACCEPTED, DISPLACED, RETRACTED}
+use Rattle.rules.specs.Layout.{rows, hours, window, clock, used, setClock, row, onRow, reqtype, status, related, start, stop, hourAt, spanHours, span, available, displaced, raise, setStatus, Sized}
+use Rattle.rules.specs.Sound.{sound}
+use Rattle.rules.specs.Megawatts.{inForce, carriesOver}
+use Rattle.rules.specs.Confirming.{confirm}
+use Rattle.rules.specs.Checks.{named, namedRow, profile, waitsAt}
+use Rattle.rules.specs.SellerStatus.{offers, goesOn, offered, annulsConfirmed, offerAfter, otherAfter, sellerAfter}
+use Rattle.rules.specs.CustomerStatus.{bids, confirms, bidden, bidAfter, customerAfter}
+use Rattle.rules.specs.Approve.{approveAfter}
+use Rattle.rules.specs.Reduce.{reduceAfter}
+use Rattle.rules.specs.Lapse.{lapseAfter}
+use Rattle.rules.specs.Clock.{clockAfter}
+use Rattle.rules.specs.Act.{kindNumber, kindAfter, commonNumber, lastNumber, number, refused, accepted, step}
+use Rattle.rules.specs.declared.Action.{Action}
+use Rattle.rules.proofs.Rows.{row-least, head-row}
+use Rattle.rules.proofs.SoundFacts.{SoundWords, SoundLedger, sound-facts, facts-sound}
+use Rattle.rules.proofs.Formed.{FormedHours, Formed, formed}
+use Rattle.rules.proofs.Passed.{gives-none, or-else-none, profile-length, SellerPassed, CustomerPassed, ApprovePassed, ReducePassed, LapsePassed, ClockPassed, submit-passed, seller-status-passed, customer-status-passed, approve-passed, reduce-passed, lapse-passed, clock-passed}
+use Rattle.rules.proofs.Effects.{Spanned, row-spanned, span-room}
+use Rattle.rules.proofs.Submitted.{submit-next}
+use Rattle.rules.proofs.Kept.{Same, Next, Shaped, relation-shaped, formed-by, head-kept, same-self, same-status, same-approved, same-offered, same-bidden, fitting-profile, fitting-force, fitting-granted, next-own, next-displace, next-annul, next-reduce, next-confirm, next-then-confirm, next-then-status}
+
+-- either of two ledgers
+next-pick : {l x y : List ℕ} (b : Bool) → (b ≡ true → Next l x) → (b ≡ false → Next l y) → Next l (pick b x y)
+next-pick true p q = p refl
+next-pick false p q = q refl
+
+-- the row that an issued reference names
+issued-row : (l : List ℕ) (a : Action) → (1 ≤ a .reference) × (a .reference ≤ used l) → named a < used l
+issued-row l a e = omega (arith, e .0, e .1)
+
+-- ---- 2 Seller status
+module _ {l : List ℕ} (F : Formed l) (w : List ℕ) (a : Action) (P : SellerPassed (hours l) l w a) where
+  seller-row : named a < used l
+  seller-row = issued-row l a (P .reference)
+
+  offer-next : offers a ≡ true → Next l (offerAfter (hours l) l w a)
+  unfolding offerAfter
+  offer-next q =
+      let o = same-self F seller-row in
+      let f = fitting-granted o w a (P .offer q .profile) in
+      let s = same-offered o (clock l + window l) (omega (arith, F .head .clock, F .head .window .1)) w a (P .offer q .price) (P .status .0) (P .status .1) f in
+      next-pick (goesOn a (namedRow (hours l) l a))
+      (λ _. next-then-confirm F seller-row (offered (hours l) (clock l + window l) w a) s f)
+      (λ _. next-own F seller-row (offered (hours l) (clock l + window l) w a) s)
+
+  other-next : Next l (otherAfter (hours l) l a)
+  unfolding otherAfter
+  other-next =
+      next-pick (eqb (a .status) DISPLACED) (λ _. next-displace F seller-row)
+      (λ _. next-pick (annulsConfirmed a (namedRow (hours l) l a)) (λ _. next-annul F seller-row)
+      (λ _. next-own F seller-row (setStatus (a .status)) (same-status (same-self F seller-row) (P .status .0) (P .status .1))))
+
+  seller-next : Next l (sellerAfter (hours l) l w a)
+  unfolding sellerAfter
+  seller-next = next-pick (offers a) (λ q. offer-next q) (λ _. other-next)
+
+-- ---- 3 Customer status
+module _ {l : List ℕ} (F : Formed l) (w : List ℕ) (a : Action) (P : CustomerPassed (hours l) l w a) where
+  customer-row : named a < used l
+  customer-row = issued-row l a (P .reference)
+
+  bid-next : bids a ≡ true → Next l (bidAfter (hours l) l w a)
+  unfolding bidAfter
+  bid-next q = go (confirms a)
+    where
+      o : Same (hours l) (namedRow (hours l) l a) (namedRow (hours l) l a)
+      o = same-self F customer-row
+
+      s : Same (hours l) (namedRow (hours l) l a) (bidden (hours l) w a (namedRow (hours l) l a))
+      s = same-bidden o w a (P .bid q .price) (λ c. fitting-profile (namedRow (hours l) l a) (P .bid q .profile c))
+
+      go : (b : Bool) → Next l (pick b (confirm (hours l) (named a) (inForce (hours l) (namedRow (hours l) l a))) (onRow (hours l) (named a) (setStatus (a .status))) (onRow (hours l) (named a) (bidden (hours l) w a) l))
+      go true = next-then-confirm F customer-row (bidden (hours l) w a) s (fitting-force o)
+      go false = next-then-status F customer-row (bidden (hours l) w a) s (P .status .0) (P .status .1)
+
+  customer-next : Next l (customerAfter (hours l) l w a)
+  unfolding customerAfter
+  customer-next =
+      next-pick (bids a) (λ q. bid-next q)
+      (λ _. next-own F customer-row (setStatus (a .status)) (same-status (same-self F customer-row) (P .status .0) (P .status .1)))
+
+-- ---- 4 Approve, 5 Reduce, 6 Lapse
+approve-next : {l : List ℕ} → Formed l → (a : Action) → ApprovePassed (hours l) l a → Next l (approveAfter (hours l) l a)
+unfolding approveAfter
+approve-next {l} F a P =
+    let lt = issued-row l a (P .reference) in
+    let o = same-self F lt in
+    next-pick (waitsAt ACCEPTED (namedRow (hours l) l a))
+    (λ _. next-then-confirm F lt (raise approved) (same-approved o) (fitting-force o))
+    (λ _. next-own F lt (raise approved) (same-approved o))
+
+reduce-next : {l : List ℕ} → Formed l → (w : List ℕ) (a : Action) → ReducePassed (hours l) l w a → Next l (reduceAfter (hours l) l w a)
+unfolding reduceAfter
+reduce-next {l} F w a P = next-reduce F (issued-row l a (P .reference)) (profile w a) (profile-length (P .profile))
+
+lapse-next : {l : List ℕ} → Formed l → (a : Action) → LapsePassed (hours l) l a → Next l (lapseAfter (hours l) l a)
+unfolding lapseAfter
+lapse-next {l} F a P =
+    let lt = issued-row l a (P .reference) in
+    let o = same-self F lt in
+    next-pick (waitsAt CR-ACCEPTED (namedRow (hours l) l a)) (λ _. next-confirm F lt (fitting-force o))
+    (λ _. next-own F lt (setStatus RETRACTED) (same-status o (omega arith) (omega arith)))
+
+-- ---- 7 Clock
+clock-next : {l : List ℕ} → Formed l → (a : Action) → ClockPassed l a → Next l (clockAfter l a)
+unfolding clockAfter
+clock-next {l} F a P = record {
+  formed = formed-by same refl
+      (head-kept (F .head) sized′ (λ i lt ne _. getD-set-other l 5 i (a .time) 0 ne) now (omega (arith, users, F .head .used)))
+      (λ n lt. subst (λ (r : List ℕ). SoundWords (hours l) r) (sym (rows-same n)) (F .words n (omega (arith, users))))
+      (λ n lt. subst (λ (r : List ℕ). FormedHours (hours l) r) (sym (rows-same n)) (F .profiles n (omega (arith, users))))
+      (λ n lt. relation-shaped shaped n (F .relations n (omega (arith, users))))
+      (λ n le k. ap (λ (r : List ℕ). getD r k 0) (rows-same n) ∙ F .unused n (omega (arith, users)) k);
+  hours = same;
+}
+  where
+    l′ : List ℕ
+    l′ = setClock (a .time) l
+
+    same : hours l′ ≡ hours l
+    same = getD-set-other l 5 1 (a .time) 0 (λ e. omega arith)
+
+    users : used l′ ≡ used l
+    users = getD-set-other l 5 6 (a .time) 0 (λ e. omega arith)
+
+    sized′ : Sized l′ (rows l) (hours l)
+    sized′ = record { long = length-set l 5 (a .time) ∙ F .head .long; rows = F .head .rows-most; hours = F .head .hours-most }
+
+    now : getD l′ 5 0 < endSecond
+    now = omega (arith, getD-set-same l 5 (a .time) 0 (omega (arith, F .head .long, row-least (hours l) (rows l))), P .most)
+
+    rows-same : (n : ℕ) → row (hours l) l′ n ≡ row (hours l) l n
+    rows-same n = head-row (hours l) l 5 (a .time) n (lit< tt)
+
+    shaped : Shaped (hours l) l l′
+    shaped = record {
+      type = λ m. ap (λ (r : List ℕ). reqtype r) (rows-same m);
+      related = λ m. ap (λ (r : List ℕ). related r) (rows-same m);
+      start = λ m. ap (λ (r : List ℕ). start r) (rows-same m);
+      stop = λ m. ap (λ (r : List ℕ). stop r) (rows-same m);
+    }
+
+-- ---- every action
+-- kind and actor
+common-passed : (a : Action) → commonNumber true a ≡ 0 → (1 ≤ a .actor) × (a .actor ≤ mostEntity)
+unfolding commonNumber entity
+common-passed a e =
+    let k = gives-none (not (leb 1 (a .kind) && leb (a .kind) 7)) _ _ e in
+    let s = gives-none (not (leb 1 (a .actor) && leb (a .actor) mostEntity)) _ _ (k .1) in
+    let t = not-false _ (s .0) in
+    (leb-true _ _ (and-left _ _ t), leb-true _ _ (and-right (leb 1 (a .actor)) _ t))
+
+-- of two kinds the one that is meant
+next-choice : {l x y : List ℕ} (b : Bool) (n m : ℕ) → (n ≡ 0 → Next l x) → (m ≡ 0 → Next l y) → pick b n m ≡ 0 → Next l (pick b x y)
+next-choice true n m p q e = p e
+next-choice false n m p q e = q e
+
+kind-next : {l : List ℕ} → Formed l → (w : List ℕ) (a : Action) → (1 ≤ a .actor) × (a .actor ≤ mostEntity) → kindNumber (hours l) l w a ≡ 0 → Next l (kindAfter (hours l) l w a)
+unfolding kindNumber kindAfter
+kind-next {l} F w a actor =
+    next-choice (eqb (a .kind) 1) _ _ (λ e. submit-next F (submit-passed (hours l) l w a e) actor)
+    (next-choice (eqb (a .kind) 2) _ _ (λ e. seller-next F w a (seller-status-passed (hours l) l w a e))
+    (next-choice (eqb (a .kind) 3) _ _ (λ e. customer-next F w a (customer-status-passed (hours l) l w a e))
+    (next-choice (eqb (a .kind) 4) _ _ (λ e. approve-next F a (approve-passed (hours l) l a e))
+    (next-choice (eqb (a .kind) 5) _ _ (λ e. reduce-next F w a (reduce-passed (hours l) l w a e))
+    (next-choice (eqb (a .kind) 6) _ _ (λ e. lapse-next F a (lapse-passed (hours l) l a e)) (λ e. clock-next F a (clock-passed l a e)))))))
+
+-- ---- the last check: no available or displaced word over the bound
+-- the words of a profile's span are within the bound, so all of it is
+span-most : {H : ℕ} {r : List ℕ} → Spanned H r → FormedHours H r → (p h : ℕ) → p < profiles → h < H → within mostMegawatts (span H p r) ≡ true → getD r (hourAt H p h) 0 ≤ mostMegawatts
+unfolding span
+span-most {H} {r} s f p h plt hlt e = go (lt-or-le h (start r)) (lt-or-le h (stop r))
+  where
+    go : (h < start r) ⊎ (start r ≤ h) → (h < stop r) ⊎ (stop r ≤ h) → getD r (hourAt H p h) 0 ≤ mostMegawatts
+    go (inl u) v = omega (arith, f .outside p h plt hlt (inl u))
+    go (inr u) (inr v) = omega (arith, f .outside p h plt hlt (inr v))
+    go (inr u) (inl v) =
+        let k : h - start r < spanHours r = omega arith in
+        let i : hourAt H p (start r) + (h - start r) ≡ hourAt H p h = omega arith in
+        let w = part-at r (hourAt H p (start r)) (spanHours r) (span-room s plt) (h - start r) k in
+        let z = part-length r (hourAt H p (start r)) (spanHours r) (span-room s plt) in
+        omega (arith, w, ap (λ (j : ℕ). getD r j 0) i, within-at mostMegawatts (span H p r) e (h - start r) (omega (arith, z)))
+
+module _ {l : List ℕ} (F : Formed l) (e : carriesOver (hours l) l ≡ false) where
+  carried : (n : ℕ) → n < used l → (within mostMegawatts (available (hours l) (row (hours l) l n)) ≡ true) × (within mostMegawatts (displaced (hours l) (row (hours l) l n)) ≡ true)
+  unfolding carriesOver
+  carried n lt =
+      let t = all-at (λ n. within mostMegawatts (available (hours l) (row (hours l) l n)) && within mostMegawatts (displaced (hours l) (row (hours l) l n))) (used l) n (not-false _ e) lt in
+      (and-left _ _ t, and-right (within mostMegawatts (available (hours l) (row (hours l) l n))) _ t)
+
+  pub sound-of : SoundLedger l
+  sound-of = record {
+    head = F .head;
+    words = F .words;
+    profiles = λ n lt. record { most = λ p h plt hlt. most n lt p h plt hlt (lt-or-le p availablePart) (ℕ-discrete p availablePart); outside = F .profiles n lt .outside };
+    relations = F .relations;
+    unused = F .unused;
+  }
+    where
+      over : (n : ℕ) → n < used l → (p h : ℕ) → p < profiles → h < hours l → within mostMegawatts (span (hours l) p (row (hours l) l n)) ≡ true → getD (row (hours l) l n) (hourAt (hours l) p h) 0 ≤ mostMegawatts
+      over n lt p h plt hlt w = span-most (row-spanned F lt) (F .profiles n lt) p h plt hlt w
+
+      most : (n : ℕ) → n < used l → (p h : ℕ) → p < profiles → h < hours l → (p < availablePart) ⊎ (availablePart ≤ p) → Dec (p ≡ availablePart) → getD (row (hours l) l n) (hourAt (hours l) p h) 0 ≤ mostMegawatts
+      most n lt p h plt hlt (inl u) d = F .profiles n lt .most p h u hlt
+      most n lt p h plt hlt (inr u) (yes q) =
+          over n lt p h plt hlt (subst (λ (i : ℕ). within mostMegawatts (span (hours l) i (row (hours l) l n)) ≡ true) (sym q) (carried n lt .0))
+      most n lt p h plt hlt (inr u) (no q) =
+          let d : displacedPart ≡ p = omega (arith, q) in
+          over n lt p h plt hlt (subst (λ (i : ℕ). within mostMegawatts (span (hours l) i (row (hours l) l n)) ≡ true) d (carried n lt .1))
+
+last-passed : (H : ℕ) (l : List ℕ) → lastNumber H l ≡ 0 → carriesOver H l ≡ false
+unfolding lastNumber
+last-passed H l e = gives-none (carriesOver H l) _ _ e .0
+
+-- an accepted action's checks, one group after the other
+pub number-passed : (l w : List ℕ) (a : Action) → number true l w a ≡ 0 → (commonNumber true a ≡ 0) × (kindNumber (hours l) l w a ≡ 0) × (carriesOver (hours l) (kindAfter (hours l) l w a) ≡ false)
+unfolding number
+number-passed l w a e =
+    let c = or-else-none (commonNumber true a) _ e in
+    let k = or-else-none (kindNumber (hours l) l w a) _ (c .1) in
+    (c .0, k .0, last-passed (hours l) (kindAfter (hours l) l w a) (k .1))
+
+pub sound-next : {l : List ℕ} → SoundLedger l → (w : List ℕ) (a : Action) → number true l w a ≡ 0 → SoundLedger (kindAfter (hours l) l w a)
+sound-next {l} s w a e =
+    let p = number-passed l w a e in
+    let n = kind-next (formed s) w a (common-passed a (p .0)) (p .1) in
+    sound-of (n .formed) (subst (λ (H : ℕ). carriesOver H (kindAfter (hours l) l w a) ≡ false) (sym (n .hours)) (p .2))
+
+pub sound-kept : (l w : List ℕ) (a : Action) → sound l ≡ true → number true l w a ≡ 0 → sound (kindAfter (hours l) l w a) ≡ true
+sound-kept l w a s e = facts-sound (sound-next (sound-facts s) w a e)
+
+-- a refused action leaves the ledger as it was
+step-true : (l w : List ℕ) (a : Action) → sound l ≡ true → sound (step true l w a .ledger) ≡ true
+unfolding step accepted refused
+step-true l w a s = go (eqb (number true l w a) 0) refl
+  where
+    go : (b : Bool) → eqb (number true l w a) 0 ≡ b → sound (pick b (accepted l w a (kindAfter (hours l) l w a)) (refused l (number true l w a)) .ledger) ≡ true
+    go true q = sound-kept l w a s (eqb-true _ _ q)
+    go false q = s
+
+pub sound-step : (l w : List ℕ) (a : Action) → sound l ≡ true → sound (step (sound l) l w a .ledger) ≡ true
+sound-step l w a s = subst (λ (b : Bool). sound (step b l w a .ledger) ≡ true) (sym s) (step-true l w a s)

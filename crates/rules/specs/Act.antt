@@ -1,0 +1,109 @@
+-- Every action: its number, the ledger that it leaves, its answer.
+use mathlib.Core.Bool.{Bool, _&&_, not}
+use mathlib.Core.List.{List}
+use Prim.Native.Nat.{ℕ, _+_}
+use lib.Dec.{eqb}
+use Rattle.words.specs.Lists.{total}
+use Rattle.rules.specs.Pick.{pick, _gives_else_, _onlyIf_, _orElse_, _isFrom_to_}
+use Rattle.rules.specs.Numbers.{entity, CONFIRMED, DISPLACED, ANNULLED}
+use Rattle.rules.specs.Layout.{hours, used, rowOf, row, status, granted, available}
+use Rattle.rules.specs.Sound.{sound}
+use Rattle.rules.specs.Megawatts.{carriesOver}
+use Rattle.rules.specs.Checks.{namedRow, profile}
+use Rattle.rules.specs.Submit.{submitNumber, submitAfter}
+use Rattle.rules.specs.SellerStatus.{sellerNumber, sellerAfter}
+use Rattle.rules.specs.CustomerStatus.{customerNumber, customerAfter}
+use Rattle.rules.specs.Approve.{approveNumber, approveAfter}
+use Rattle.rules.specs.Reduce.{reduceNumber, reduceAfter}
+use Rattle.rules.specs.Lapse.{lapseNumber, lapseAfter}
+use Rattle.rules.specs.Clock.{clockNumber, clockAfter}
+use Rattle.rules.specs.declared.Action.{Action}
+use Rattle.rules.specs.declared.Answer.{Answer}
+
+-- one of seven, by the kind's number
+abbrev pub byKind : {A : Type 0} → ℕ → A → A → A → A → A → A → A → A
+byKind k x1 x2 x3 x4 x5 x6 x7 =
+    pick (eqb k 1) x1 (pick (eqb k 2) x2 (pick (eqb k 3) x3 (pick (eqb k 4) x4 (pick (eqb k 5) x5 (pick (eqb k 6) x6 x7)))))
+
+unfoldable pub kindNumber : ℕ → List ℕ → List ℕ → Action → ℕ
+kindNumber H l w a =
+    byKind (a .kind) (submitNumber H l w a) (sellerNumber H l w a) (customerNumber H l w a) (approveNumber H l a)
+    (reduceNumber H l w a) (lapseNumber H l a) (clockNumber l a)
+
+-- the ledger after an accepted action
+unfoldable pub kindAfter : ℕ → List ℕ → List ℕ → Action → List ℕ
+kindAfter H l w a =
+    byKind (a .kind) (submitAfter H l w a) (sellerAfter H l w a) (customerAfter H l w a) (approveAfter H l a)
+    (reduceAfter H l w a) (lapseAfter H l a) (clockAfter l a)
+
+-- every action. 1: ledger unsound; 2: kind not 1 to 7; 3: actor no entity
+unfoldable pub commonNumber : Bool → Action → ℕ
+commonNumber isSound a =
+    not isSound gives 1 else
+    not (a .kind isFrom 1 to 7) gives 2 else
+    not (entity (a .actor)) gives 3 else
+    0
+
+-- 1: the action would carry an available or displaced word over 100,000 (judged last)
+unfoldable pub lastNumber : ℕ → List ℕ → ℕ
+lastNumber H next = 1 onlyIf carriesOver H next
+
+-- first that applies, first given
+unfoldable pub number : Bool → List ℕ → List ℕ → Action → ℕ
+number isSound l w a =
+    commonNumber isSound a orElse kindNumber (hours l) l w a orElse lastNumber (hours l) (kindAfter (hours l) l w a)
+
+-- Refused: the number and four zeros
+unfoldable pub refusal : ℕ → Answer
+refusal n = record { number = n; reference = 0; before = 0; after = 0; moved = 0 }
+
+-- the reference that an accepted action is about, and the status before: 0 for a submission
+unfoldable pub subject : List ℕ → Action → ℕ
+subject l a = pick (eqb (a .kind) 1) (used l + 1) (a .reference)
+
+unfoldable pub statusBefore : ℕ → List ℕ → Action → ℕ
+statusBefore H l a = pick (eqb (a .kind) 1) 0 (status (namedRow H l a))
+
+-- MW-hours moved as a row went from a status to another: granted of a row confirmed or annulled from 13, else what was displaced, else 0
+unfoldable pub movedBetween : ℕ → ℕ → ℕ → List ℕ → List ℕ → ℕ
+movedBetween H old new r next =
+    pick (not (eqb old CONFIRMED) && eqb new CONFIRMED) (total (granted H next)) (
+    pick (eqb old CONFIRMED && eqb new ANNULLED) (total (granted H next)) (
+    pick (eqb old CONFIRMED && eqb new DISPLACED) (total (available H r))
+    0))
+
+-- or what was reduced
+unfoldable pub megawattHours : ℕ → List ℕ → List ℕ → Action → List ℕ → ℕ
+megawattHours H l w a next =
+    let n = rowOf (subject l a) in
+    pick (eqb (a .kind) 5) (total (profile w a))
+    (movedBetween H (statusBefore H l a) (status (row H next n)) (row H l n) (row H next n))
+
+-- Accepted: 0, reference, status before, status after, MW-hours moved
+unfoldable pub acceptance : ℕ → List ℕ → List ℕ → Action → List ℕ → Answer
+acceptance H l w a next =
+    record { number = 0; reference = subject l a; before = statusBefore H l a; after = status (row H next (rowOf (subject l a))); moved = megawattHours H l w a next }
+
+-- the clock gives five zeros
+unfoldable pub answered : ℕ → List ℕ → List ℕ → Action → List ℕ → Answer
+answered H l w a next = pick (eqb (a .kind) 7) (refusal 0) (acceptance H l w a next)
+
+-- What an action answers and leaves
+pub record Outcome : Type 0 where
+  pub answer : Answer
+  pub ledger : List ℕ
+
+unfoldable pub refused : List ℕ → ℕ → Outcome
+refused l n = record { answer = refusal n; ledger = l }
+
+unfoldable pub accepted : List ℕ → List ℕ → Action → List ℕ → Outcome
+accepted l w a next = record { answer = answered (hours l) l w a next; ledger = next }
+
+-- of an action on a ledger that is sound, or not
+unfoldable pub step : Bool → List ℕ → List ℕ → Action → Outcome
+step isSound l w a =
+    let n = number isSound l w a in
+    pick (eqb n 0) (accepted l w a (kindAfter (hours l) l w a)) (refused l n)
+
+unfoldable pub outcome : List ℕ → List ℕ → Action → Outcome
+outcome l w a = step (sound l) l w a
