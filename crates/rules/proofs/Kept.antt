@@ -464,6 +464,8 @@ same-bidden {H} {r} o w a p f =
 pub record Next (l l′ : List ℕ) : Type 0 where
   pub formed : Formed l′
   pub hours : hours l′ ≡ hours l
+  pub rows : rows l′ ≡ rows l
+  pub used : used l ≤ used l′
 
 -- a profile that fits a row fits what became of it
 pub fitting-same : {H : ℕ} {mw r q : List ℕ} → Fitting mw r → Same H r q → Fitting mw q
@@ -471,7 +473,7 @@ fitting-same f s = record { counted = omega (arith, f .counted, s .start, s .sto
 
 module _ {l : List ℕ} (F : Formed l) {n : ℕ} (lt : n < used l) where
   pub next-leaves : {l′ r : List ℕ} → Leaves (rows l) (hours l) l l′ n r → Same (hours l) (row (hours l) l n) r → Next l l′
-  next-leaves L s = record { formed = formed-leaves F lt L s; hours = L .head 1 (lit< tt) }
+  next-leaves L s = record { formed = formed-leaves F lt L s; hours = L .head 1 (lit< tt); rows = L .head 0 (lit< tt); used = omega (arith, L .head 6 (lit< tt)) }
 
   pub next-own : (f : List ℕ → List ℕ) → Same (hours l) (row (hours l) l n) (f (row (hours l) l n)) → Next l (onRow (hours l) n f l)
   next-own f s = next-leaves (own-leaves F lt f (s .long)) s
@@ -496,6 +498,8 @@ module _ {l : List ℕ} (F : Formed l) {n : ℕ} (lt : n < used l) (f : List ℕ
   next-then E h = record {
     formed = subst (λ (H : ℕ). Formed (E H l₁)) same (after .formed);
     hours = subst (λ (H : ℕ). hours (E H l₁) ≡ hours l₁) same (after .hours) ∙ same;
+    rows = subst (λ (H : ℕ). rows (E H l₁) ≡ rows l₁) same (after .rows) ∙ L .head 0 (lit< tt);
+    used = omega (arith, subst (λ (H : ℕ). used l₁ ≤ used (E H l₁)) same (after .used), L .head 6 (lit< tt));
   }
     where
       l₁ : List ℕ

@@ -39,5 +39,6 @@ pub mod SubmitGood
 pub mod FreshGood
 pub mod Balanced
 pub mod Lists
+pub mod Batches
 pub mod Demand
 pub mod Day

@@ -2,23 +2,21 @@
 use mathlib.Core.Path.{_≡_, refl, sym, ap, _∙_}
 use mathlib.Core.Bool.{Bool, true, false, _&&_, _||_, not}
 use mathlib.Core.Logic.{_≢_, _⊎_, ⊎-elim, inl, inr}
-use mathlib.Core.List.{List, [], _∷_}
-use Prim.Native.Nat.{ℕ, _+_, _-_, _*_, _/_, _%_, _≤_, _<_}
+use mathlib.Core.List.{List}
+use Prim.Native.Nat.{ℕ, _+_, _-_, _/_, _%_, _≤_, _<_}
 use native.Mathlib.Decide.{ℕ-discrete}
 use native.Mathlib.Nat.{add-mul, mod-lt, div-add-mod', mul-le-mul-right}
 use native.Mathlib.Omega.{arith}
-use lib.Dec.{leb, ltb, eqb}
-use lib.ListN.{length, getD, take, drop, length-take, length-drop, List·getD-eq-default}
+use lib.Dec.{leb, eqb}
+use lib.ListN.{length, getD, drop, length-take, List·getD-eq-default}
 use lib.Seq.{getD-take, getD-drop}
-use borrow.Author.Tests.{leb-true, ltb-true, eqb-true, eqb-false, le-leb, lt-leb, lt-ltb, eq-eqb, ne-eqb, not-true}
+use borrow.Author.Tests.{leb-true, ltb-true, eqb-true, eqb-false, le-leb, lt-leb, lt-ltb, eq-eqb, ne-eqb}
 use Rattle.words.specs.Lists.{part, allBelow, within, zeros}
 use Rattle.words.proofs.Laws.{lt-or-le, and-left, and-right, all-at, all-below, within-at, within-all, zeros-at, zeros-all}
-use Rattle.rules.specs.Pick.{pick, _among_}
-use Rattle.rules.specs.Numbers.{headWords, rowWords, usedWords, profiles, mostRows, mostHours, mostEntity, mostWindow, mostPrice, mostMegawatts, mostType, mostStatus, mostFlags, endHour, endSecond, endLimit, entity, NONFIRM-REDIRECT, RELINQUISH}
+use Rattle.rules.specs.Numbers.{rowWords, usedWords, profiles, mostRows, mostHours, mostEntity, mostWindow, mostPrice, mostMegawatts, mostType, mostStatus, mostFlags, endHour, endSecond, endLimit, entity, NONFIRM-REDIRECT, RELINQUISH}
 use Rattle.rules.specs.Layout.{rows, hours, provider, window, base, clock, used, headEnd, rowBase, rowSize, row, reqtype, status, customer, seller, related, start, stop, flags, bid, offer, limit, relatedRow, hourAt, hoursOf, spanHours, span, Sized}
 use Rattle.rules.specs.Create.{goodNumbers}
 use Rattle.rules.specs.Sound.{original, upward, relates, inside, soundHead, soundWords, soundProfile, soundRelated, soundRow, unusedZero, sound}
-use Rattle.rules.proofs.Rows.{row-apart}
 
 pub record SoundHead (l : List ℕ) : Type 0 where
   pub long : length l ≡ rowBase (hours l) (rows l)
@@ -74,7 +72,7 @@ pub record SoundLedger (l : List ℕ) : Type 0 where
 both : (b c : Bool) → (b && c) ≡ true → (b ≡ true) × (c ≡ true)
 both b c e = (and-left b c e, and-right b c e)
 
-range : (a x b : ℕ) → (leb a x && leb x b) ≡ true → (a ≤ x) × (x ≤ b)
+pub range : (a x b : ℕ) → (leb a x && leb x b) ≡ true → (a ≤ x) × (x ≤ b)
 range a x b e = (leb-true a x (and-left (leb a x) (leb x b) e), leb-true x b (and-right (leb a x) (leb x b) e))
 
 join : (b c : Bool) → b ≡ true → c ≡ true → (b && c) ≡ true
@@ -84,7 +82,22 @@ ranged : (a x b : ℕ) → (a ≤ x) × (x ≤ b) → (leb a x && leb x b) ≡ t
 ranged a x b h = join (leb a x) (leb x b) (le-leb a x (h .0)) (le-leb x b (h .1))
 
 -- ---- the head
-head-facts : (l : List ℕ) → soundHead l ≡ true → SoundHead l
+-- numbers that creation takes
+pub good-sizes : (R H provider window base : ℕ) → goodNumbers R H provider window base ≡ true → (R ≤ mostRows) × (H ≤ mostHours)
+unfolding goodNumbers
+good-sizes R H provider window base e =
+    let a = both _ _ e in
+    let b = both _ _ (a .1) in
+    (range 1 R mostRows (a .0) .1, range 1 H mostHours (b .0) .1)
+
+pub good-least : (R H provider window base : ℕ) → goodNumbers R H provider window base ≡ true → (1 ≤ R) × (1 ≤ H)
+unfolding goodNumbers
+good-least R H provider window base e =
+    let a = both _ _ e in
+    let b = both _ _ (a .1) in
+    (range 1 R mostRows (a .0) .0, range 1 H mostHours (b .0) .0)
+
+pub head-facts : (l : List ℕ) → soundHead l ≡ true → SoundHead l
 unfolding soundHead goodNumbers entity
 head-facts l e =
     let g = both _ _ e in
@@ -121,6 +134,9 @@ facts-head l h =
     (join _ _ (ranged 1 (window l) mostWindow (h .window)) (le-leb _ _ (h .base))))))
     (join _ _ (eq-eqb _ _ (h .long)) (join _ _ (lt-ltb _ _ (h .clock)) (join _ _ (le-leb _ _ (h .used)) (eq-eqb _ _ (h .end)))))
 
+pub head-sized : {l : List ℕ} → SoundHead l → Sized l (rows l) (hours l)
+head-sized h = record { long = h .long; rows = h .rows-most; hours = h .hours-most }
+
 -- ---- words of a part, whether or not it lies in the list
 part-word : (l : List ℕ) (a n k : ℕ) → k < n → getD (part l a n) k 0 ≡ getD l (a + k) 0
 part-word l a n k lt = getD-take n (drop a l) k 0 lt ∙ getD-drop a l k 0
@@ -136,7 +152,7 @@ within-word b a e k =
     ⊎-elim (λ x. within-at b a e k x) (λ x. omega (arith, List·getD-eq-default a 0 x)) (lt-or-le k (length a))
 
 -- ---- the sixteen words
-words-facts : (H : ℕ) (r : List ℕ) → soundWords H r ≡ true → SoundWords H r
+pub words-facts : (H : ℕ) (r : List ℕ) → soundWords H r ≡ true → SoundWords H r
 unfolding soundWords entity
 words-facts H r e =
     let a = both _ _ e in
@@ -279,7 +295,7 @@ module _ (H : ℕ) (l : List ℕ) (n : ℕ) where
       let b = both _ _ (a .1) in
       (a .0, b .0, b .1)
 
-upward-facts : (H : ℕ) (l : List ℕ) (n : ℕ) → upward H l n ≡ true → (1 ≤ related (row H l n)) × (related (row H l n) ≤ n)
+pub upward-facts : (H : ℕ) (l : List ℕ) (n : ℕ) → upward H l n ≡ true → (1 ≤ related (row H l n)) × (related (row H l n) ≤ n)
 unfolding upward
 upward-facts H l n e = range 1 (related (row H l n)) n e
 
@@ -331,7 +347,7 @@ facts-relation H l n w s =
     (lt-or-le (reqtype (row H l n)) 3)
 
 -- ---- unused rows
-row-after : (H : ℕ) {n m : ℕ} → n ≤ m → rowBase H n ≤ rowBase H m
+pub row-after : (H : ℕ) {n m : ℕ} → n ≤ m → rowBase H n ≤ rowBase H m
 unfolding rowBase
 row-after H {n} {m} h = omega (arith, mul-le-mul-right (rowSize H) h)
 
@@ -401,4 +417,4 @@ facts-sound {l} s =
     (facts-unused (hours l) l (s .unused)))
 
 pub sized : {l : List ℕ} → SoundLedger l → Sized l (rows l) (hours l)
-sized s = record { long = s .head .long; rows = s .head .rows-most; hours = s .head .hours-most }
+sized s = head-sized (s .head)

@@ -128,6 +128,8 @@ clock-next {l} F a P = record {
       (λ n lt. relation-shaped shaped n (F .relations n (omega (arith, users))))
       (λ n le k. ap (λ (r : List ℕ). getD r k 0) (rows-same n) ∙ F .unused n (omega (arith, users)) k);
   hours = same;
+  rows = getD-set-other l 5 0 (a .time) 0 (λ e. omega arith);
+  used = omega (arith, users);
 }
   where
     l′ : List ℕ
@@ -158,7 +160,7 @@ clock-next {l} F a P = record {
 
 -- ---- every action
 -- kind and actor
-common-passed : (a : Action) → commonNumber true a ≡ 0 → (1 ≤ a .actor) × (a .actor ≤ mostEntity)
+pub common-passed : (a : Action) → commonNumber true a ≡ 0 → (1 ≤ a .actor) × (a .actor ≤ mostEntity)
 unfolding commonNumber entity
 common-passed a e =
     let k = gives-none (not (leb 1 (a .kind) && leb (a .kind) 7)) _ _ e in
@@ -171,7 +173,7 @@ next-choice : {l x y : List ℕ} (b : Bool) (n m : ℕ) → (n ≡ 0 → Next l 
 next-choice true n m p q e = p e
 next-choice false n m p q e = q e
 
-kind-next : {l : List ℕ} → Formed l → (w : List ℕ) (a : Action) → (1 ≤ a .actor) × (a .actor ≤ mostEntity) → kindNumber (hours l) l w a ≡ 0 → Next l (kindAfter (hours l) l w a)
+pub kind-next : {l : List ℕ} → Formed l → (w : List ℕ) (a : Action) → (1 ≤ a .actor) × (a .actor ≤ mostEntity) → kindNumber (hours l) l w a ≡ 0 → Next l (kindAfter (hours l) l w a)
 unfolding kindNumber kindAfter
 kind-next {l} F w a actor =
     next-choice (eqb (a .kind) 1) _ _ (λ e. submit-next F (submit-passed (hours l) l w a e) actor)
@@ -241,6 +243,12 @@ sound-next {l} s w a e =
     let p = number-passed l w a e in
     let n = kind-next (formed s) w a (common-passed a (p .0)) (p .1) in
     sound-of (n .formed) (subst (λ (H : ℕ). carriesOver H (kindAfter (hours l) l w a) ≡ false) (sym (n .hours)) (p .2))
+
+-- rows, hours and the rows in use stay
+pub head-next : {l : List ℕ} → SoundLedger l → (w : List ℕ) (a : Action) → number true l w a ≡ 0 → Next l (kindAfter (hours l) l w a)
+head-next {l} s w a e =
+    let p = number-passed l w a e in
+    kind-next (formed s) w a (common-passed a (p .0)) (p .1)
 
 pub sound-kept : (l w : List ℕ) (a : Action) → sound l ≡ true → number true l w a ≡ 0 → sound (kindAfter (hours l) l w a) ≡ true
 sound-kept l w a s e = facts-sound (sound-next (sound-facts s) w a e)

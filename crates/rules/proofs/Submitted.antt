@@ -198,4 +198,4 @@ submit-opens {l} {w} {a} F P =
 pub submit-next : {l w : List ℕ} {a : Action} → Formed l → SubmitPassed (hours l) l w a → (1 ≤ a .actor) × (a .actor ≤ mostEntity) → Next l (submitAfter (hours l) l w a)
 submit-next {l} {w} {a} F P actor =
     let O = submit-opens F P in
-    record { formed = opens-formed F (omega (arith, P .room, F .head .used)) P O actor; hours = O .head 1 (lit< tt) (λ e. omega arith) }
+    record { formed = opens-formed F (omega (arith, P .room, F .head .used)) P O actor; hours = O .head 1 (lit< tt) (λ e. omega arith); rows = O .head 0 (lit< tt) (λ e. omega arith); used = omega (arith, O .more) }

@@ -1,0 +1,4 @@
+pub mod Lent
+pub mod Fresh
+pub mod Firm
+pub mod Soundness

@@ -1,0 +1,12 @@
+pub mod Picks
+pub mod Lists
+pub mod TableRule
+pub mod Months
+pub mod Halving
+pub mod Digits
+pub mod Ranges
+pub mod Readings
+pub mod Writings
+pub mod Dates
+pub mod RoundTrips
+pub mod Examples

@@ -1,0 +1,6 @@
+pub mod Pick
+pub mod Calendar
+pub mod Stamp
+pub mod Steps
+pub mod RoundTrips
+pub mod Examples
