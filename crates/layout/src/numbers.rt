@@ -145,3 +145,36 @@ pub const PART_TRANSFER: u32 = 6;
 pub const FULL_TRANSFER: u32 = 7;
 
 pub const RELINQUISH: u32 = 8;
+
+// Refusals, by their numbers: what an action, a charge or a creation answers where it is not carried out.
+pub const UNSOUND: u32 = 1;
+
+pub const OUT_OF_RANGE: u32 = 2;
+
+pub const WRONG_PARTY: u32 = 3;
+
+pub const NO_REFERENCE: u32 = 4;
+
+pub const WRONG_TIME: u32 = 5;
+
+pub const WRONG_SPAN: u32 = 6;
+
+pub const WRONG_PROFILE: u32 = 7;
+
+pub const NO_ROW_LEFT: u32 = 8;
+
+pub const WRONG_RELATED: u32 = 9;
+
+pub const WRONG_FLAGS: u32 = 10;
+
+pub const WRONG_MOVE: u32 = 11;
+
+pub const WRONG_PRICE: u32 = 12;
+
+pub const UNAPPROVED: u32 = 13;
+
+pub const SHORT: u32 = 14;
+
+pub const PARTLY_USED: u32 = 15;
+
+pub const TOO_EARLY: u32 = 16;

@@ -1,0 +1,85 @@
+/*
+ * Document 01's day at the desk through the library: prints its 14 lines, and
+ * exits with status 1 where a line or a word left behind differs.
+ *
+ *   cc -std=c11 -o example example.c -L<archive> -lluddrisa
+ */
+#include <stdio.h>
+#include <string.h>
+
+#include "luddrisa.h"
+
+enum {
+    ROWS = 8,
+    HOURS = 4,
+    LEDGER_WORDS = 8 + ROWS * (16 + 4 * HOURS),
+    ACTIONS = 14
+};
+
+/* Profiles one after the other. */
+static const uint32_t profiles[] = {100, 100, 100, 100, 40, 60, 40, 50, 1, 20};
+
+static const struct luddrisa_action list[ACTIONS] = {
+    {.kind = 1, .actor = 10, .reqtype = 1, .seller = 1, .start = 0, .stop = 4,
+     .price = 500, .offset = 0, .length = 4},
+    {.kind = 2, .actor = 1, .reference = 1, .status = 10, .price = 500},
+    {.kind = 3, .actor = 10, .reference = 1, .status = 13, .price = 500},
+    {.kind = 1, .actor = 20, .reqtype = 3, .seller = 10, .related = 1, .start = 1, .stop = 3,
+     .flags = 1, .price = 700, .offset = 4, .length = 2},
+    {.kind = 2, .actor = 10, .reference = 2, .status = 10, .price = 700},
+    {.kind = 1, .actor = 10, .reqtype = 5, .seller = 1, .related = 1, .start = 2, .stop = 4,
+     .flags = 1, .offset = 6, .length = 2},
+    {.kind = 2, .actor = 1, .reference = 3, .status = 10},
+    {.kind = 1, .actor = 30, .reqtype = 3, .seller = 10, .related = 1, .start = 2, .stop = 3,
+     .flags = 1, .offset = 8, .length = 1},
+    {.kind = 2, .actor = 10, .reference = 4, .status = 10},
+    {.kind = 2, .actor = 1, .reference = 1, .status = 15},
+    {.kind = 1, .actor = 10, .reqtype = 8, .seller = 1, .related = 3, .start = 3, .stop = 4,
+     .flags = 1, .offset = 9, .length = 1},
+    {.kind = 2, .actor = 1, .reference = 5, .status = 10},
+    {.kind = 2, .actor = 10, .reference = 2, .status = 16},
+    {.kind = 2, .actor = 1, .reference = 3, .status = 16},
+};
+
+static const struct luddrisa_answer expected[ACTIONS] = {
+    {0, 1, 0, 1, 0},    {0, 1, 1, 10, 0},   {0, 1, 10, 13, 400}, {0, 2, 0, 1, 0},
+    {0, 2, 1, 13, 100}, {0, 3, 0, 1, 0},    {0, 3, 1, 13, 90},   {0, 4, 0, 1, 0},
+    {14, 0, 0, 0, 0},   {0, 1, 13, 15, 210}, {0, 5, 0, 1, 0},    {0, 5, 1, 13, 20},
+    {0, 2, 13, 16, 100}, {15, 0, 0, 0, 0},
+};
+
+/* One profile of a row: 0 requested, 1 granted, 2 available, 3 displaced. */
+static const uint32_t *profile(const uint32_t *ledger, uint32_t reference, uint32_t which)
+{
+    return ledger + 8 + (reference - 1) * (16 + 4 * HOURS) + 16 + which * HOURS;
+}
+
+int main(void)
+{
+    static const uint32_t displaced[HOURS] = {100, 100, 60, 70};
+    static const uint32_t available[HOURS] = {0, 0, 40, 30};
+    uint32_t ledger[LEDGER_WORDS];
+    struct luddrisa_answer answers[ACTIONS];
+    uint64_t cents;
+    int differences = 0;
+
+    if (luddrisa_create(ledger, LEDGER_WORDS, ROWS, HOURS, 1, 3600, 0) != 0) {
+        return 1;
+    }
+    if (luddrisa_batch(ledger, LEDGER_WORDS, profiles, sizeof profiles / sizeof profiles[0], list,
+                       ACTIONS, answers, ACTIONS) != 0) {
+        return 1;
+    }
+    for (int i = 0; i < ACTIONS; i++) {
+        printf("%d %lu %lu %lu %lu %lu\n", i + 1, (unsigned long)answers[i].number,
+               (unsigned long)answers[i].reference, (unsigned long)answers[i].before,
+               (unsigned long)answers[i].after, (unsigned long)answers[i].moved);
+        differences += memcmp(&answers[i], &expected[i], sizeof answers[i]) != 0;
+    }
+    differences += memcmp(profile(ledger, 1, 3), displaced, sizeof displaced) != 0;
+    differences += memcmp(profile(ledger, 3, 2), available, sizeof available) != 0;
+    /* Row 3 is CONFIRMED at bid 0, row 1 no longer. */
+    differences += luddrisa_charge(ledger, LEDGER_WORDS, 3, &cents) != 0 || cents != 0;
+    differences += luddrisa_charge(ledger, LEDGER_WORDS, 1, &cents) != 11 || cents != 0;
+    return differences != 0;
+}

@@ -1,0 +1,152 @@
+/*
+ * luddrisa.h: an hourly ledger of point-to-point transmission reservations.
+ *
+ * Document 01 states the rules; this page says how they are called.
+ *
+ * THE LEDGER is a slice of 32-bit words that the caller owns, keeps and may
+ * store: 8 + rows * (16 + 4 * hours) words, neither more nor fewer.
+ *
+ *   head      rows, hours, provider, confirmation window in seconds, base hour,
+ *             now, rows used, 0
+ *   row       type, status, customer, seller, related reference, start, stop,
+ *             flags, bid, offer, limit, five zeros, then four profiles of
+ *             `hours` words: requested, granted, available, displaced
+ *
+ * A reference (ASSIGNMENT_REF) counts from 1: reference n is the n-th row.
+ * Entities are 1 to 65,535. Hours run from start up to, not including, stop.
+ * Seconds count from 2000-01-01 00:00 UT. Prices are cents per MW-day, at most
+ * 99,999,999. A profile word is whole MW, at most 100,000.
+ *
+ * TYPES     1 ORIGINAL firm, 2 ORIGINAL non-firm, 3 RESALE, 4 REDIRECT firm,
+ *           5 REDIRECT non-firm, 6 PART_TRANSFER, 7 FULL_TRANSFER, 8 RELINQUISH
+ * STATUSES  1 QUEUED, 2 INVALID, 3 RECEIVED, 4 STUDY, 5 REFUSED,
+ *           6 COUNTEROFFER, 7 CR_COUNTEROFFER, 8 REBID, 9 SUPERSEDED,
+ *           10 ACCEPTED, 11 CR_ACCEPTED, 12 DECLINED, 13 CONFIRMED,
+ *           14 WITHDRAWN, 15 DISPLACED, 16 ANNULLED, 17 RETRACTED
+ * FLAGS     1 preconfirmed, 2 coordinated (these two on submission), 4 approved,
+ *           8 granted given, 16 offer given
+ *
+ * ACTIONS, the fields they read beside kind and actor:
+ *
+ *   1 submit           reqtype, seller, related, start, stop, flags, price, profile
+ *   2 seller status    reference, status; for 6, 7, 10, 11 price and profile
+ *   3 customer status  reference, status; for 8, 13 price and profile
+ *   4 approve          reference
+ *   5 reduce           reference, profile
+ *   6 lapse            reference
+ *   7 clock            time
+ *
+ * A profile is `length` words from `offset` on in the word slice handed over
+ * with the actions, one for each hour of the span. Kinds 2 and 3 take length 0
+ * as no profile. Fields that a kind does not read are ignored.
+ *
+ * ANSWERS   Accepted: 0, the reference, the status before (0 for a submission)
+ * and after, and the MW-hours moved; the clock gives five zeros. Refused: the
+ * number and four zeros, and no word of the ledger changes.
+ *
+ *    1 ledger unsound or not to be created so, or an hour would pass 100,000 MW
+ *    2 unknown kind, type or status         11 the row can't move so
+ *    3 no entity, or not the right party    12 price too high, or price or
+ *    4 no such reference                       capacity do not agree
+ *    5 time below now or past 2099          13 transfer not approved
+ *    6 not a span of the ledger             14 available short in an hour
+ *    7 profile does not fit                 15 available differs from granted
+ *    8 all rows used                        16 limit not reached
+ *    9 related row does not fit             17 fewer answers than actions
+ *   10 flags                                18 not a stamp   19 stamp not written
+ *
+ * POINTERS   No pointer may be NULL, also where its length is 0. Each must be
+ * aligned for its type and good for its length during the call. What a call
+ * writes must overlap nothing else that it is handed. The library keeps no
+ * pointer and no state: calls on different ledgers may run at the same time,
+ * calls on one ledger may not, save those that only read it.
+ *
+ * No call fails in any other way than stated here, whatever the words are.
+ */
+#ifndef LUDDRISA_H
+#define LUDDRISA_H
+
+#include <stddef.h>
+#include <stdint.h>
+
+#ifdef __cplusplus
+extern "C" {
+#endif
+
+struct luddrisa_action {
+    uint32_t kind;
+    uint32_t actor;
+    uint32_t reference;
+    uint32_t reqtype; /* document 01's type */
+    uint32_t status;
+    uint32_t seller;
+    uint32_t related;
+    uint32_t start;
+    uint32_t stop;
+    uint32_t flags;
+    uint32_t price;
+    uint32_t time;
+    uint32_t offset; /* of the profile in the word slice */
+    uint32_t length; /* of the profile, 0 where none comes */
+};
+
+struct luddrisa_answer {
+    uint32_t number; /* 0 accepted, otherwise why it was refused */
+    uint32_t reference;
+    uint32_t before;
+    uint32_t after;
+    uint32_t moved; /* MW-hours */
+};
+
+/*
+ * Makes the slice a ledger with no rows used and the clock at 0. Gives 0, or 1
+ * where a number or the length is wrong, and then leaves the slice as it is.
+ * rows 1 to 1,024; hours 1 to 744; window 1 to 2,592,000; base + hours at most
+ * 876,600.
+ */
+uint32_t luddrisa_create(uint32_t *ledger, size_t len, uint32_t rows, uint32_t hours,
+                         uint32_t provider, uint32_t window, uint32_t base);
+
+/*
+ * Answers each action in turn, action i into answers[i]. Gives 0, also for an
+ * empty list, or 17 where there are fewer answers than actions, with nothing
+ * done. Spare answers are not written. The list is not all-or-nothing: each
+ * action has its own answer and those accepted stay.
+ */
+uint32_t luddrisa_batch(uint32_t *ledger, size_t len, const uint32_t *words, size_t words_len,
+                        const struct luddrisa_action *actions, size_t actions_len,
+                        struct luddrisa_answer *answers, size_t answers_len);
+
+/*
+ * The charge of a CONFIRMED row: MW-hours granted * bid / 24, to the cent, a
+ * half up. Gives 0 and the cents, or 1, 4 or 11 and 0 cents.
+ */
+uint32_t luddrisa_charge(const uint32_t *ledger, size_t len, uint32_t reference, uint64_t *cents);
+
+/*
+ * The profile in force: granted once given, requested before, the span only.
+ * Gives its number of hours, 0 where the ledger is unsound or has no such
+ * reference. Its words are written to the front of out if they fit, otherwise
+ * nothing is written; 744 words always suffice.
+ */
+size_t luddrisa_profile_in_force(const uint32_t *ledger, size_t len, uint32_t reference,
+                                 uint32_t *out, size_t out_len);
+
+/*
+ * Reads a stamp, yyyymmddhhmmss and zone UT, ES, ED, CS, CD, MS, MD, PS or PD,
+ * exactly 16 bytes. Gives 0 and the second, or 18 and second 0.
+ */
+uint32_t luddrisa_read_stamp(const uint8_t *bytes, size_t len, uint32_t *second);
+
+/*
+ * Writes the stamp of a second in a zone, 0 to 8 in the order above. Gives 0,
+ * or 19 where the second or the zone is out of range, the local year is before
+ * 2000 or the slice is not 16 bytes, and then writes nothing.
+ */
+uint32_t luddrisa_write_stamp(uint8_t *bytes, size_t len, uint32_t second, uint32_t zone);
+
+#ifdef __cplusplus
+}
+#endif
+
+#endif

@@ -1,0 +1,578 @@
+//! The day at the desk, and each refusal once.
+
+use super::*;
+
+/// A ledger with a word slice that profiles are put into.
+struct Desk {
+    ledger: Vec<u32>,
+    words: Vec<u32>,
+    tally: Tally,
+}
+
+impl Desk {
+    /// Provider 1, window 3,600, base hour 0.
+    fn new(rows: u32, hours: u32) -> Desk {
+        let mut ledger = vec![9; ledger_words(rows, hours)];
+        assert_eq!(create(&mut ledger, rows, hours, 1, 3_600, 0), 0);
+        Desk { ledger, words: Vec::new(), tally: Tally::new(hours) }
+    }
+
+    /// One action with a profile; whatever it answers, the ledger stays sound,
+    /// and a refusal changes no word.
+    fn act(&mut self, mut action: Action, profile: &[u32]) -> Answer {
+        if !profile.is_empty() {
+            action.offset = self.words.len() as u32;
+            action.length = profile.len() as u32;
+            self.words.extend_from_slice(profile);
+        }
+        let before = self.ledger.clone();
+        let answer = act(&mut self.ledger, &self.words, &action);
+        assert_eq!(sound(&self.ledger), sound(&before));
+        if answer.number != 0 {
+            assert_eq!(answer, Answer::refused(answer.number));
+            assert_eq!(self.ledger, before);
+        }
+        self.tally.feed(&self.words, &action, &answer);
+        answer
+    }
+
+    fn number(&mut self, action: Action, profile: &[u32]) -> u32 {
+        self.act(action, profile).number
+    }
+
+    fn ok(&mut self, action: Action, profile: &[u32]) -> Answer {
+        let answer = self.act(action, profile);
+        assert_eq!(answer.number, 0, "{action:?}");
+        answer
+    }
+
+    /// A confirmed original of customer 10, all hours, all with the same megawatts.
+    fn original(&mut self, reqtype: u32, mw: u32) -> u32 {
+        let hours = self.ledger[HOURS];
+        let profile = vec![mw; hours as usize];
+        let reference =
+            self.ok(submission(10, reqtype, 1, 0, 0, hours, 1, 500), &profile).reference;
+        self.ok(seller(1, reference, ACCEPTED, 500), &[]);
+        reference
+    }
+
+    fn field(&self, reference: u32, field: usize) -> u32 {
+        Row::of(&self.ledger, reference).get(&self.ledger, field)
+    }
+
+    fn profile(&self, reference: u32, profile: usize) -> &[u32] {
+        &self.ledger[Row::of(&self.ledger, reference).profile(profile)]
+    }
+}
+
+#[allow(clippy::too_many_arguments)]
+fn submission(
+    actor: u32,
+    reqtype: u32,
+    seller: u32,
+    related: u32,
+    start: u32,
+    stop: u32,
+    flags: u32,
+    price: u32,
+) -> Action {
+    Action {
+        kind: SUBMIT,
+        actor,
+        reqtype,
+        seller,
+        related,
+        start,
+        stop,
+        flags,
+        price,
+        ..Action::default()
+    }
+}
+
+fn seller(actor: u32, reference: u32, status: u32, price: u32) -> Action {
+    Action { kind: SELLER_STATUS, actor, reference, status, price, ..Action::default() }
+}
+
+fn customer(actor: u32, reference: u32, status: u32, price: u32) -> Action {
+    Action { kind: CUSTOMER_STATUS, actor, reference, status, price, ..Action::default() }
+}
+
+fn on(kind: u32, actor: u32, reference: u32) -> Action {
+    Action { kind, actor, reference, ..Action::default() }
+}
+
+fn clock(actor: u32, time: u32) -> Action {
+    Action { kind: CLOCK, actor, time, ..Action::default() }
+}
+
+const DAY: [[u32; 6]; 14] = [
+    [1, 0, 1, 0, 1, 0],
+    [2, 0, 1, 1, 10, 0],
+    [3, 0, 1, 10, 13, 400],
+    [4, 0, 2, 0, 1, 0],
+    [5, 0, 2, 1, 13, 100],
+    [6, 0, 3, 0, 1, 0],
+    [7, 0, 3, 1, 13, 90],
+    [8, 0, 4, 0, 1, 0],
+    [9, 14, 0, 0, 0, 0],
+    [10, 0, 1, 13, 15, 210],
+    [11, 0, 5, 0, 1, 0],
+    [12, 0, 5, 1, 13, 20],
+    [13, 0, 2, 13, 16, 100],
+    [14, 15, 0, 0, 0, 0],
+];
+
+#[test]
+fn day_at_the_desk() {
+    let list: [(Action, &[u32]); 14] = [
+        (submission(10, ORIGINAL_FIRM, 1, 0, 0, 4, 0, 500), &[100; 4]),
+        (seller(1, 1, ACCEPTED, 500), &[]),
+        (customer(10, 1, CONFIRMED, 500), &[]),
+        (submission(20, RESALE, 10, 1, 1, 3, 1, 700), &[40, 60]),
+        (seller(10, 2, ACCEPTED, 700), &[]),
+        (submission(10, REDIRECT_NON_FIRM, 1, 1, 2, 4, 1, 0), &[40, 50]),
+        (seller(1, 3, ACCEPTED, 0), &[]),
+        (submission(30, RESALE, 10, 1, 2, 3, 1, 0), &[1]),
+        (seller(10, 4, ACCEPTED, 0), &[]),
+        (seller(1, 1, DISPLACED, 0), &[]),
+        (submission(10, RELINQUISH, 1, 3, 3, 4, 1, 0), &[20]),
+        (seller(1, 5, ACCEPTED, 0), &[]),
+        (seller(10, 2, ANNULLED, 0), &[]),
+        (seller(1, 3, ANNULLED, 0), &[]),
+    ];
+    let mut desk = Desk::new(8, 4);
+    let mut lines = Vec::new();
+    for (number, (action, profile)) in (1..).zip(list) {
+        let answer = desk.act(action, profile);
+        lines.push([
+            number,
+            answer.number,
+            answer.reference,
+            answer.before,
+            answer.after,
+            answer.moved,
+        ]);
+    }
+    assert_eq!(lines, DAY);
+    assert_eq!(desk.profile(1, DISPLACED_MW), [100, 100, 60, 70]);
+    assert_eq!(desk.profile(1, AVAILABLE), [0; 4]);
+    assert_eq!(desk.profile(3, AVAILABLE), [0, 0, 40, 30]);
+    assert_eq!(balanced(&desk.ledger, &desk.tally), Ok(()));
+}
+
+#[test]
+fn day_at_the_desk_in_one_batch() {
+    let profiles = [100, 100, 100, 100, 40, 60, 40, 50, 1, 20];
+    let with = |action: Action, offset, length| Action { offset, length, ..action };
+    let list = [
+        with(submission(10, ORIGINAL_FIRM, 1, 0, 0, 4, 0, 500), 0, 4),
+        seller(1, 1, ACCEPTED, 500),
+        customer(10, 1, CONFIRMED, 500),
+        with(submission(20, RESALE, 10, 1, 1, 3, 1, 700), 4, 2),
+        seller(10, 2, ACCEPTED, 700),
+        with(submission(10, REDIRECT_NON_FIRM, 1, 1, 2, 4, 1, 0), 6, 2),
+        seller(1, 3, ACCEPTED, 0),
+        with(submission(30, RESALE, 10, 1, 2, 3, 1, 0), 8, 1),
+        seller(10, 4, ACCEPTED, 0),
+        seller(1, 1, DISPLACED, 0),
+        with(submission(10, RELINQUISH, 1, 3, 3, 4, 1, 0), 9, 1),
+        seller(1, 5, ACCEPTED, 0),
+        seller(10, 2, ANNULLED, 0),
+        seller(1, 3, ANNULLED, 0),
+    ];
+    let mark = Answer { number: 77, reference: 77, before: 77, after: 77, moved: 77 };
+    let mut desk = Desk::new(8, 4);
+    let fresh = desk.ledger.clone();
+
+    let mut few = [mark; 13];
+    assert_eq!(batch(&mut desk.ledger, &profiles, &list, &mut few), TOO_FEW_ANSWERS);
+    assert_eq!((&desk.ledger, few), (&fresh, [mark; 13]));
+
+    let mut answers = [mark; 16];
+    assert_eq!(batch(&mut desk.ledger, &profiles, &list, &mut answers), 0);
+    for (line, answer) in DAY.iter().zip(answers) {
+        let words = [answer.number, answer.reference, answer.before, answer.after, answer.moved];
+        assert_eq!(line[1..], words, "line {}", line[0]);
+    }
+    assert_eq!(answers[14..], [mark; 2]);
+    assert_eq!(desk.profile(1, DISPLACED_MW), [100, 100, 60, 70]);
+    assert_eq!(batch(&mut desk.ledger, &[], &[], &mut []), 0);
+}
+
+#[test]
+fn creation_is_refused() {
+    let mut words = vec![7; ledger_words(2, 3)];
+    for (rows, hours, provider, window, base) in [
+        (0, 3, 1, 1, 0),
+        (1_025, 3, 1, 1, 0),
+        (2, 0, 1, 1, 0),
+        (2, 745, 1, 1, 0),
+        (2, 3, 0, 1, 0),
+        (2, 3, 65_536, 1, 0),
+        (2, 3, 1, 0, 0),
+        (2, 3, 1, 2_592_001, 0),
+        (2, 3, 1, 1, 876_598),
+        (2, 3, 1, 1, u32::MAX),
+        (1, 3, 1, 1, 0),
+    ] {
+        assert_eq!(create(&mut words, rows, hours, provider, window, base), BAD_LEDGER);
+        assert!(words.iter().all(|&word| word == 7));
+    }
+    assert_eq!(create(&mut words, 2, 3, 65_535, 2_592_000, 876_597), 0);
+    assert_eq!(words[..8], [2, 3, 65_535, 2_592_000, 876_597, 0, 0, 0]);
+    assert!(words[8..].iter().all(|&word| word == 0));
+    assert!(sound(&words));
+}
+
+#[test]
+fn every_kind_on_an_unsound_ledger() {
+    for kind in [0, 1, 2, 3, 4, 5, 6, 7, 8, u32::MAX] {
+        let mut desk = Desk::new(1, 1);
+        desk.ledger[HEAD_ZERO] = 1;
+        assert_eq!(desk.number(on(kind, 1, 1), &[]), BAD_LEDGER);
+        assert_eq!(act(&mut [], &[], &on(kind, 1, 1)).number, BAD_LEDGER);
+    }
+}
+
+#[test]
+fn kind_and_actor_come_first() {
+    let mut desk = Desk::new(1, 1);
+    assert_eq!(desk.number(on(9, 0, 0), &[]), BAD_CODE);
+    assert_eq!(desk.number(on(0, 1, 0), &[]), BAD_CODE);
+    for kind in 1..=7 {
+        assert_eq!(desk.number(on(kind, 0, 99), &[]), BAD_PARTY);
+        assert_eq!(desk.number(on(kind, 65_536, 99), &[]), BAD_PARTY);
+    }
+}
+
+#[test]
+fn submission_is_refused() {
+    let mut desk = Desk::new(3, 4);
+    desk.original(ORIGINAL_FIRM, 100);
+    desk.original(ORIGINAL_NON_FIRM, 100);
+    let good = submission(10, REDIRECT_FIRM, 1, 1, 1, 3, 0, 0);
+    let two = &[5, 6];
+    let cases: [(Action, &[u32], u32); 17] = [
+        (Action { reqtype: 9, ..good }, two, BAD_CODE),
+        (Action { seller: 0, ..good }, two, BAD_PARTY),
+        (Action { start: 3, ..good }, two, BAD_SPAN),
+        (Action { stop: 5, ..good }, two, BAD_SPAN),
+        (good, &[], BAD_PROFILE),
+        (good, &[5], BAD_PROFILE),
+        (good, &[5, 100_001], BAD_PROFILE),
+        (good, &[0, 0], BAD_PROFILE),
+        (Action { flags: 4, ..good }, two, BAD_FLAGS),
+        (Action { reqtype: REDIRECT_NON_FIRM, ..good }, two, BAD_FLAGS),
+        (Action { price: 100_000_000, ..good }, two, BAD_TERMS),
+        (Action { related: 0, ..good }, two, BAD_RELATED),
+        (Action { related: 2, ..good }, two, BAD_RELATED),
+        (Action { related: 3, ..good }, two, BAD_RELATED),
+        (Action { reqtype: ORIGINAL_FIRM, ..good }, two, BAD_RELATED),
+        (Action { seller: 2, ..good }, two, BAD_PARTY),
+        (Action { actor: 11, ..good }, two, BAD_PARTY),
+    ];
+    for (action, profile, number) in cases {
+        assert_eq!(desk.number(action, profile), number, "{action:?} {profile:?}");
+    }
+    // Outside its slice.
+    let outside = Action { offset: u32::MAX, length: 2, ..good };
+    assert_eq!(desk.number(outside, &[]), BAD_PROFILE);
+    assert_eq!(desk.ok(good, two).reference, 3);
+    assert_eq!(desk.number(good, two), LEDGER_FULL);
+}
+
+#[test]
+fn seller_status_is_refused() {
+    let mut desk = Desk::new(8, 2);
+    let one = desk.original(ORIGINAL_FIRM, 100);
+    let sale = desk.ok(submission(20, RESALE, 10, one, 0, 2, 0, 7), &[50, 60]).reference;
+    assert_eq!(desk.number(seller(10, 99, 3, 0), &[]), NO_REFERENCE);
+    assert_eq!(desk.number(seller(10, 0, 3, 0), &[]), NO_REFERENCE);
+    assert_eq!(desk.number(seller(10, sale, 18, 0), &[]), BAD_CODE);
+    assert_eq!(desk.number(seller(20, sale, 3, 0), &[]), BAD_PARTY);
+    assert_eq!(desk.number(seller(1, sale, 3, 0), &[]), BAD_PARTY);
+    assert_eq!(desk.number(seller(1, sale, ANNULLED, 0), &[]), BAD_MOVE);
+    assert_eq!(desk.number(seller(10, sale, CR_ACCEPTED, 7), &[]), BAD_MOVE);
+    assert_eq!(desk.number(seller(10, sale, COUNTEROFFER, 7), &[1]), BAD_PROFILE);
+    assert_eq!(desk.number(seller(10, sale, COUNTEROFFER, 100_000_000), &[]), BAD_TERMS);
+    assert_eq!(desk.number(seller(10, sale, COUNTEROFFER, 9), &[51, 1]), BAD_TERMS);
+    assert_eq!(desk.number(seller(10, sale, ACCEPTED, 8), &[]), BAD_TERMS);
+    assert_eq!(desk.number(seller(10, sale, ACCEPTED, 7), &[50, 59]), BAD_TERMS);
+
+    // Confirming on acceptance: short, then the related row displaced.
+    let big = desk.ok(submission(20, RESALE, 10, one, 0, 2, 1, 7), &[1, 101]).reference;
+    assert_eq!(desk.number(seller(10, big, ACCEPTED, 7), &[]), SHORT);
+    let small = desk.ok(submission(20, RESALE, 10, one, 0, 2, 1, 7), &[1, 1]).reference;
+    desk.ok(Action { offset: 0, ..on(REDUCE, 1, one) }, &[1, 0]);
+    assert_eq!(desk.number(seller(1, one, ANNULLED, 0), &[]), IN_USE);
+    desk.ok(seller(1, one, DISPLACED, 0), &[]);
+    assert_eq!(desk.number(seller(10, small, ACCEPTED, 7), &[]), BAD_RELATED);
+    assert_eq!(desk.field(small, STATUS), QUEUED);
+    assert_eq!(balanced(&desk.ledger, &desk.tally), Ok(()));
+}
+
+#[test]
+fn words_over_the_bound_are_refused_last() {
+    let mut desk = Desk::new(4, 1);
+    let one = desk.original(ORIGINAL_FIRM, 100_000);
+    let redirect = desk.ok(submission(10, REDIRECT_NON_FIRM, 1, one, 0, 1, 1, 0), &[30]).reference;
+    desk.ok(seller(1, redirect, ACCEPTED, 0), &[]);
+    let back = desk.ok(submission(10, RELINQUISH, 1, redirect, 0, 1, 1, 0), &[20]).reference;
+    // Words that no list of actions leaves behind.
+    let row = Row::of(&desk.ledger, one);
+    desk.ledger[row.profile(AVAILABLE).start] = 99_981;
+    desk.ledger[row.profile(DISPLACED_MW).start] = 20;
+    assert_eq!(desk.number(seller(1, back, ACCEPTED, 0), &[]), BAD_LEDGER);
+    assert_eq!(desk.number(seller(1, redirect, ANNULLED, 0), &[]), BAD_LEDGER);
+    assert_eq!(desk.number(seller(1, one, DISPLACED, 0), &[]), BAD_LEDGER);
+    desk.ledger[row.profile(AVAILABLE).start] = 99_980;
+    desk.ok(seller(1, back, ACCEPTED, 0), &[]);
+    assert_eq!(desk.profile(one, AVAILABLE), [100_000]);
+    // Annulling a row in use is 15 although the word would pass as well.
+    assert_eq!(desk.number(seller(1, redirect, ANNULLED, 0), &[]), IN_USE);
+}
+
+#[test]
+fn customer_status_is_refused() {
+    let mut desk = Desk::new(8, 2);
+    let one = desk.original(ORIGINAL_FIRM, 100);
+    let part = desk.ok(submission(20, PART_TRANSFER, 10, one, 0, 1, 0, 7), &[50]).reference;
+    assert_eq!(desk.number(customer(20, 99, 14, 0), &[]), NO_REFERENCE);
+    assert_eq!(desk.number(customer(20, part, 0, 0), &[]), BAD_CODE);
+    assert_eq!(desk.number(customer(10, part, 14, 0), &[]), BAD_PARTY);
+    assert_eq!(desk.number(customer(20, part, 13, 0), &[]), BAD_MOVE);
+    desk.ok(seller(10, part, COUNTEROFFER, 9), &[40]);
+    assert_eq!(desk.number(customer(20, part, REBID, 9), &[1, 2]), BAD_PROFILE);
+    assert_eq!(desk.number(customer(20, part, REBID, 100_000_000), &[]), BAD_TERMS);
+    assert_eq!(desk.number(customer(20, part, CONFIRMED, 8), &[40]), BAD_TERMS);
+    assert_eq!(desk.number(customer(20, part, CONFIRMED, 9), &[]), BAD_TERMS);
+    assert_eq!(desk.number(customer(20, part, CONFIRMED, 9), &[40]), NOT_APPROVED);
+    desk.ok(on(APPROVE, 1, part), &[]);
+    let reduce = on(REDUCE, 1, one);
+    desk.ok(reduce, &[70, 0]);
+    assert_eq!(desk.number(customer(20, part, CONFIRMED, 9), &[40]), SHORT);
+
+    let full = desk.ok(submission(20, FULL_TRANSFER, 10, one, 0, 1, 0, 0), &[30]).reference;
+    desk.ok(seller(10, full, ACCEPTED, 0), &[]);
+    desk.ok(on(APPROVE, 1, full), &[]);
+    assert_eq!(desk.number(customer(20, full, CONFIRMED, 0), &[]), SHORT);
+    desk.ok(seller(1, one, DISPLACED, 0), &[]);
+    assert_eq!(desk.number(customer(20, full, CONFIRMED, 0), &[]), BAD_RELATED);
+    assert_eq!(balanced(&desk.ledger, &desk.tally), Ok(()));
+}
+
+#[test]
+fn approval_is_refused() {
+    let mut desk = Desk::new(8, 1);
+    let one = desk.original(ORIGINAL_FIRM, 100);
+    let full = desk.ok(submission(20, FULL_TRANSFER, 10, one, 0, 1, 1, 7), &[100]).reference;
+    assert_eq!(desk.number(on(APPROVE, 1, 99), &[]), NO_REFERENCE);
+    assert_eq!(desk.number(on(APPROVE, 10, full), &[]), BAD_PARTY);
+    assert_eq!(desk.number(on(APPROVE, 1, one), &[]), BAD_MOVE);
+    assert_eq!(desk.ok(seller(10, full, ACCEPTED, 7), &[]).after, ACCEPTED);
+    desk.ok(on(REDUCE, 1, one), &[1]);
+    assert_eq!(desk.number(on(APPROVE, 1, full), &[]), SHORT);
+    assert_eq!(desk.field(full, FLAGS) & APPROVED, 0);
+    desk.ok(seller(1, one, DISPLACED, 0), &[]);
+    assert_eq!(desk.number(on(APPROVE, 1, full), &[]), BAD_RELATED);
+    // Another one, approved twice.
+    let two = desk.original(ORIGINAL_FIRM, 100);
+    let part = desk.ok(submission(20, PART_TRANSFER, 10, two, 0, 1, 1, 7), &[9]).reference;
+    let answer = desk.ok(on(APPROVE, 1, part), &[]);
+    assert_eq!((answer.before, answer.after, answer.moved), (QUEUED, QUEUED, 0));
+    assert_eq!(desk.number(on(APPROVE, 1, part), &[]), BAD_MOVE);
+    assert_eq!(desk.ok(seller(10, part, ACCEPTED, 7), &[]).after, CONFIRMED);
+    assert_eq!(balanced(&desk.ledger, &desk.tally), Ok(()));
+}
+
+#[test]
+fn reduction_is_refused() {
+    let mut desk = Desk::new(8, 2);
+    let one = desk.original(ORIGINAL_FIRM, 100);
+    let reduce = on(REDUCE, 1, one);
+    assert_eq!(desk.number(on(REDUCE, 1, 2), &[1, 1]), NO_REFERENCE);
+    assert_eq!(desk.number(on(REDUCE, 10, one), &[1, 1]), BAD_PARTY);
+    assert_eq!(desk.number(reduce, &[]), BAD_PROFILE);
+    assert_eq!(desk.number(reduce, &[1]), BAD_PROFILE);
+    assert_eq!(desk.number(reduce, &[0, 101]), SHORT);
+    assert_eq!(desk.ok(reduce, &[0, 100]).moved, 100);
+    assert_eq!(desk.profile(one, AVAILABLE), [100, 0]);
+    desk.ok(seller(1, one, DISPLACED, 0), &[]);
+    assert_eq!(desk.number(reduce, &[1, 0]), BAD_MOVE);
+    assert_eq!(balanced(&desk.ledger, &desk.tally), Ok(()));
+}
+
+#[test]
+fn lapse_is_refused() {
+    let mut desk = Desk::new(8, 1);
+    let one = desk.original(ORIGINAL_FIRM, 100);
+    let part = desk.ok(submission(20, PART_TRANSFER, 10, one, 0, 1, 3, 7), &[60]).reference;
+    let sale = desk.ok(submission(20, RESALE, 10, one, 0, 1, 3, 7), &[70]).reference;
+    assert_eq!(desk.number(on(LAPSE, 1, 99), &[]), NO_REFERENCE);
+    assert_eq!(desk.number(on(LAPSE, 10, sale), &[]), BAD_PARTY);
+    assert_eq!(desk.number(on(LAPSE, 1, sale), &[]), BAD_MOVE);
+    desk.ok(seller(10, part, CR_ACCEPTED, 7), &[]);
+    desk.ok(seller(10, sale, CR_ACCEPTED, 7), &[]);
+    desk.ok(clock(1, 3_599), &[]);
+    assert_eq!(desk.number(on(LAPSE, 1, sale), &[]), BEFORE_LIMIT);
+    desk.ok(clock(1, 3_600), &[]);
+    assert_eq!(desk.number(on(LAPSE, 1, part), &[]), NOT_APPROVED);
+    assert_eq!(desk.ok(on(LAPSE, 1, sale), &[]).after, CONFIRMED);
+    desk.ok(on(APPROVE, 1, part), &[]);
+    assert_eq!(desk.number(on(LAPSE, 1, part), &[]), SHORT);
+    desk.ok(seller(1, one, DISPLACED, 0), &[]);
+    assert_eq!(desk.number(on(LAPSE, 1, part), &[]), BAD_RELATED);
+    // What is not preconfirmed is retracted.
+    let two = desk.ok(submission(10, ORIGINAL_FIRM, 1, 0, 0, 1, 0, 5), &[1]).reference;
+    desk.ok(seller(1, two, ACCEPTED, 5), &[]);
+    desk.ok(clock(1, 7_200), &[]);
+    assert_eq!(desk.ok(on(LAPSE, 1, two), &[]).after, RETRACTED);
+    assert_eq!(balanced(&desk.ledger, &desk.tally), Ok(()));
+}
+
+#[test]
+fn clock_is_refused() {
+    let mut desk = Desk::new(1, 1);
+    assert_eq!(desk.number(clock(2, 5), &[]), BAD_PARTY);
+    assert_eq!(desk.ok(clock(1, 5), &[]), Answer::default());
+    assert_eq!(desk.number(clock(1, 4), &[]), BAD_TIME);
+    assert_eq!(desk.number(clock(1, 3_155_760_000), &[]), BAD_TIME);
+    desk.ok(clock(1, 3_155_759_999), &[]);
+    assert_eq!(desk.ledger[NOW], 3_155_759_999);
+}
+
+#[test]
+fn a_relinquished_megawatt_returns_to_the_row_above() {
+    let mut desk = Desk::new(8, 1);
+    let one = desk.original(ORIGINAL_FIRM, 100);
+    let redirect = desk.ok(submission(10, REDIRECT_NON_FIRM, 1, one, 0, 1, 1, 0), &[30]).reference;
+    desk.ok(seller(1, redirect, ACCEPTED, 0), &[]);
+    let back = desk.ok(submission(10, RELINQUISH, 1, redirect, 0, 1, 0, 0), &[20]).reference;
+    desk.ok(seller(1, back, ACCEPTED, 0), &[]);
+    assert_eq!(desk.ok(customer(10, back, CONFIRMED, 0), &[]).moved, 20);
+    assert_eq!(desk.profile(one, AVAILABLE), [90]);
+    assert_eq!(desk.profile(redirect, AVAILABLE), [10]);
+    assert_eq!(desk.profile(back, AVAILABLE), [0]);
+    // A type 8 row never goes from 13.
+    assert_eq!(desk.number(seller(1, back, ANNULLED, 0), &[]), BAD_MOVE);
+    assert_eq!(desk.number(seller(1, back, DISPLACED, 0), &[]), BAD_MOVE);
+    assert_eq!(desk.number(on(REDUCE, 1, back), &[1]), BAD_MOVE);
+    assert_eq!(balanced(&desk.ledger, &desk.tally), Ok(()));
+    let entries = desk.tally.entries();
+    assert_eq!(entries[&redirect].relinquished, [20]);
+    assert_eq!(entries[&one].redirected, [10]);
+}
+
+#[test]
+fn a_broken_balance_is_seen() {
+    let mut desk = Desk::new(4, 1);
+    let one = desk.original(ORIGINAL_FIRM, 100);
+    assert_eq!(balanced(&desk.ledger, &desk.tally), Ok(()));
+    let row = Row::of(&desk.ledger, one);
+    let spoil = |at: usize| {
+        let mut ledger = desk.ledger.clone();
+        ledger[at] ^= 1;
+        balanced(&ledger, &desk.tally)
+    };
+    for at in [row.at + STATUS, row.at + TYPE, row.at + RELATED] {
+        assert!(spoil(at).is_err());
+    }
+    for profile in [GRANTED, AVAILABLE, DISPLACED_MW] {
+        assert!(spoil(row.profile(profile).start).is_err());
+    }
+    assert!(spoil(USED).is_err());
+    assert!(spoil(row.profile(REQUESTED).start).is_ok());
+}
+
+#[test]
+fn charge_and_profile_in_force() {
+    let mut desk = Desk::new(4, 2);
+    let small = desk.ok(submission(10, ORIGINAL_FIRM, 1, 0, 0, 1, 1, 1), &[12]).reference;
+    assert_eq!(charge(&desk.ledger, small), Err(BAD_MOVE));
+    assert_eq!(profile_in_force(&desk.ledger, small), [12]);
+    desk.ok(seller(1, small, COUNTEROFFER, 1), &[11]);
+    assert_eq!(profile_in_force(&desk.ledger, small), [11]);
+    desk.ok(customer(10, small, REBID, 1), &[11]);
+    desk.ok(seller(1, small, ACCEPTED, 1), &[]);
+    assert_eq!(charge(&desk.ledger, small), Ok(0));
+    let next = desk.ok(submission(10, ORIGINAL_FIRM, 1, 0, 1, 2, 1, 1), &[12]).reference;
+    desk.ok(seller(1, next, ACCEPTED, 1), &[]);
+    assert_eq!(charge(&desk.ledger, next), Ok(1));
+    assert_eq!(charge(&desk.ledger, 3), Err(NO_REFERENCE));
+    assert_eq!(charge(&desk.ledger, 0), Err(NO_REFERENCE));
+    assert!(profile_in_force(&desk.ledger, 3).is_empty());
+    desk.ledger[USED] = 5;
+    assert_eq!(charge(&desk.ledger, next), Err(BAD_LEDGER));
+    assert!(profile_in_force(&desk.ledger, next).is_empty());
+}
+
+#[test]
+fn charge_at_the_bounds_of_64_bits() {
+    let mut desk = Desk::new(1, 744);
+    let all = desk
+        .ok(submission(10, ORIGINAL_FIRM, 1, 0, 0, 744, 1, 99_999_999), &[100_000; 744])
+        .reference;
+    desk.ok(seller(1, all, ACCEPTED, 99_999_999), &[]);
+    assert_eq!(charge(&desk.ledger, all), Ok(74_400_000 * 99_999_999 / 24));
+}
+
+#[test]
+fn stamps_are_read() {
+    assert_eq!(read_stamp(b"20070423060000ES"), Ok(230_641_200));
+    assert_eq!(read_stamp(b"20000229000000UT"), Ok(5_097_600));
+    assert_eq!(read_stamp(b"20991231235959UT"), Ok(3_155_759_999));
+    for stamp in [
+        "20070423220070ES",
+        "20991231190000ES",
+        "20010229000000UT",
+        "20070431000000UT",
+        "20071301000000UT",
+        "20070001000000UT",
+        "20070100000000UT",
+        "20070101240000UT",
+        "20070101006000UT",
+        "19991231235959ES",
+        "21000101000000UT",
+        "20070101000000ut",
+        "20070101000000XX",
+        "2007010100000 UT",
+        "20070101000000U",
+        "20070101000000UT0",
+        "",
+    ] {
+        assert_eq!(read_stamp(stamp.as_bytes()), Err(NOT_A_STAMP), "{stamp}");
+    }
+}
+
+#[test]
+fn stamps_are_written() {
+    let mut bytes = [b'-'; 16];
+    for (second, zone) in
+        [(3_155_760_000, 0), (u32::MAX, 0), (17_999, 1), (28_799, 7), (5, 9), (5, u32::MAX)]
+    {
+        assert_eq!(write_stamp(&mut bytes, second, zone), STAMP_RANGE);
+        assert_eq!(bytes, [b'-'; 16]);
+    }
+    assert_eq!(write_stamp(&mut [0; 15], 5, 0), STAMP_RANGE);
+    assert_eq!(write_stamp(&mut [0; 17], 5, 0), STAMP_RANGE);
+    assert_eq!(write_stamp(&mut bytes, 230_641_200, 1), 0);
+    assert_eq!(&bytes, b"20070423060000ES");
+    assert_eq!(write_stamp(&mut bytes, 18_000, 1), 0);
+    assert_eq!(&bytes, b"20000101000000ES");
+}
+
+#[test]
+fn the_table_of_months() {
+    assert_eq!(DAYS_BEFORE_MONTH[..3], [0, 31, 60]);
+    assert_eq!(DAYS_BEFORE_MONTH[1199], 36_494);
+    // Every day of the century, there and back, in each zone.
+    let mut bytes = [0; 16];
+    for day in 1..36_525 {
+        for zone in 0..9 {
+            let second = day * 86_400 + day % 86_400;
+            assert_eq!(write_stamp(&mut bytes, second, zone), 0);
+            assert_eq!(read_stamp(&bytes), Ok(second));
+        }
+    }
+}

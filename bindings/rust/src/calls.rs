@@ -1,0 +1,127 @@
+//! The calls of the static library over slices, as `luddrisa.h` declares them.
+//!
+//! These give the numbers as they are; [`Ledger`](crate::Ledger) is handier.
+
+use crate::{Action, Answer};
+
+mod extern_c {
+    use super::{Action, Answer};
+
+    extern "C" {
+        pub fn luddrisa_create(
+            ledger: *mut u32,
+            len: usize,
+            rows: u32,
+            hours: u32,
+            provider: u32,
+            window: u32,
+            base: u32,
+        ) -> u32;
+        pub fn luddrisa_batch(
+            ledger: *mut u32,
+            len: usize,
+            words: *const u32,
+            words_len: usize,
+            actions: *const Action,
+            actions_len: usize,
+            answers: *mut Answer,
+            answers_len: usize,
+        ) -> u32;
+        pub fn luddrisa_charge(
+            ledger: *const u32,
+            len: usize,
+            reference: u32,
+            cents: *mut u64,
+        ) -> u32;
+        pub fn luddrisa_profile_in_force(
+            ledger: *const u32,
+            len: usize,
+            reference: u32,
+            out: *mut u32,
+            out_len: usize,
+        ) -> usize;
+        pub fn luddrisa_read_stamp(bytes: *const u8, len: usize, second: *mut u32) -> u32;
+        pub fn luddrisa_write_stamp(bytes: *mut u8, len: usize, second: u32, zone: u32) -> u32;
+    }
+}
+
+/// Makes the slice a ledger with no rows used: 0, or 1 and nothing written.
+pub fn create(
+    ledger: &mut [u32],
+    rows: u32,
+    hours: u32,
+    provider: u32,
+    window: u32,
+    base: u32,
+) -> u32 {
+    // SAFETY: the pointer and the length are those of a slice lent for the call.
+    unsafe {
+        extern_c::luddrisa_create(
+            ledger.as_mut_ptr(),
+            ledger.len(),
+            rows,
+            hours,
+            provider,
+            window,
+            base,
+        )
+    }
+}
+
+/// Answers each action in turn: 0, or 17 and nothing done where there are fewer
+/// answer places than actions. Spare places are not written.
+pub fn batch(ledger: &mut [u32], words: &[u32], actions: &[Action], answers: &mut [Answer]) -> u32 {
+    // SAFETY: the pointers and the lengths are those of slices lent for the call;
+    // the two that are written are borrowed mutably and so overlap nothing.
+    unsafe {
+        extern_c::luddrisa_batch(
+            ledger.as_mut_ptr(),
+            ledger.len(),
+            words.as_ptr(),
+            words.len(),
+            actions.as_ptr(),
+            actions.len(),
+            answers.as_mut_ptr(),
+            answers.len(),
+        )
+    }
+}
+
+/// The charge of a row: 0 and its cents, or the number of the refusal and 0.
+pub fn charge(ledger: &[u32], reference: u32) -> (u32, u64) {
+    let mut cents = u64::MAX;
+    // SAFETY: the pointer and the length are those of a slice lent for the call.
+    let number =
+        unsafe { extern_c::luddrisa_charge(ledger.as_ptr(), ledger.len(), reference, &mut cents) };
+    (number, cents)
+}
+
+/// The number of hours of a row's profile in force, 0 where it is empty. Its
+/// words are written to the front of `out` if they fit, otherwise none is.
+pub fn profile_in_force(ledger: &[u32], reference: u32, out: &mut [u32]) -> usize {
+    // SAFETY: the pointers and the lengths are those of slices lent for the call;
+    // `out` is borrowed mutably and so does not overlap the ledger.
+    unsafe {
+        extern_c::luddrisa_profile_in_force(
+            ledger.as_ptr(),
+            ledger.len(),
+            reference,
+            out.as_mut_ptr(),
+            out.len(),
+        )
+    }
+}
+
+/// The second of a stamp: 0 and the second, or 18 and 0.
+pub fn read_stamp(bytes: &[u8]) -> (u32, u32) {
+    let mut second = u32::MAX;
+    // SAFETY: the pointer and the length are those of a slice lent for the call.
+    let number = unsafe { extern_c::luddrisa_read_stamp(bytes.as_ptr(), bytes.len(), &mut second) };
+    (number, second)
+}
+
+/// Writes the stamp of a second in a zone: 0, or 19 and nothing written.
+pub fn write_stamp(bytes: &mut [u8], second: u32, zone: u32) -> u32 {
+    // SAFETY: the pointer and the length are those of a slice lent for the call.
+    unsafe { extern_c::luddrisa_write_stamp(bytes.as_mut_ptr(), bytes.len(), second, zone) }
+}

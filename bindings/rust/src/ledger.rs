@@ -1,0 +1,234 @@
+//! A ledger that owns its words, and stamps.
+
+use crate::calls;
+use crate::names::{Flags, Refusal, RequestType, Status, Zone};
+use crate::{Action, Answer};
+
+const HEAD_WORDS: usize = 8;
+const FIELD_WORDS: usize = 16;
+
+/// A ledger and its words.
+///
+/// ```
+/// use luddrisa::{Ledger, Refusal};
+///
+/// let ledger = Ledger::create(8, 4, 1, 3_600, 0).unwrap();
+/// assert_eq!(ledger.words().len(), 8 + 8 * (16 + 4 * 4));
+/// assert!(ledger.is_sound());
+/// assert_eq!(ledger.charge(1), Err(Refusal::NO_SUCH_REFERENCE));
+/// assert_eq!(Ledger::create(0, 4, 1, 3_600, 0), Err(Refusal::UNSOUND));
+/// ```
+#[derive(Clone, Debug, PartialEq, Eq)]
+pub struct Ledger {
+    words: Vec<u32>,
+}
+
+/// The head of a ledger.
+#[derive(Clone, Copy, Debug, PartialEq, Eq)]
+pub struct Head {
+    /// The greatest number of rows.
+    pub rows: u32,
+    /// The number of hours.
+    pub hours: u32,
+    /// The provider.
+    pub provider: u32,
+    /// The confirmation window in seconds.
+    pub window: u32,
+    /// The base hour, counted from 2000-01-01 00:00 UT.
+    pub base: u32,
+    /// The clock, in seconds from 2000-01-01 00:00 UT.
+    pub now: u32,
+    /// Rows used.
+    pub used: u32,
+}
+
+/// One used row of a ledger. Profiles have a word for every hour of the ledger.
+#[derive(Clone, Copy, Debug, PartialEq, Eq)]
+pub struct Row<'a> {
+    /// What it asks for.
+    pub reqtype: RequestType,
+    /// How far it has come.
+    pub status: Status,
+    /// Its customer.
+    pub customer: u32,
+    /// Its seller.
+    pub seller: u32,
+    /// Its related reference, 0 for originals.
+    pub related: u32,
+    /// Its first hour.
+    pub start: u32,
+    /// The hour after its last.
+    pub stop: u32,
+    /// Its flags.
+    pub flags: Flags,
+    /// BID_PRICE.
+    pub bid: u32,
+    /// OFFER_PRICE.
+    pub offer: u32,
+    /// The second from which its offer may lapse.
+    pub limit: u32,
+    /// CAPACITY_REQUESTED.
+    pub requested: &'a [u32],
+    /// CAPACITY_GRANTED.
+    pub granted: &'a [u32],
+    /// Megawatts that can still be resold, redirected, transferred or reduced.
+    pub available: &'a [u32],
+    /// Megawatts taken by displacement or returned to a row no longer confirmed.
+    pub displaced: &'a [u32],
+}
+
+impl Ledger {
+    /// A ledger with no rows used and its clock at 0.
+    ///
+    /// `rows` is 1 to 1,024, `hours` 1 to 744, `provider` an entity, `window`
+    /// 1 to 2,592,000 seconds, `base` + `hours` at most 876,600.
+    pub fn create(
+        rows: u32,
+        hours: u32,
+        provider: u32,
+        window: u32,
+        base: u32,
+    ) -> Result<Ledger, Refusal> {
+        // Numbers out of range are refused whatever the length, so none is made for them.
+        let fits = (1..=1_024).contains(&rows) && (1..=744).contains(&hours);
+        let len =
+            if fits { HEAD_WORDS + rows as usize * (FIELD_WORDS + 4 * hours as usize) } else { 0 };
+        let mut words = vec![0; len];
+        Refusal::check(calls::create(&mut words, rows, hours, provider, window, base))?;
+        Ok(Ledger { words })
+    }
+
+    /// A ledger from words kept elsewhere. They are not looked at here: on an
+    /// unsound ledger every action answers [`Refusal::UNSOUND`].
+    pub fn from_words(words: Vec<u32>) -> Ledger {
+        Ledger { words }
+    }
+
+    /// The words, to be kept.
+    pub fn words(&self) -> &[u32] {
+        &self.words
+    }
+
+    /// The words, given away.
+    pub fn into_words(self) -> Vec<u32> {
+        self.words
+    }
+
+    /// True where the ledger is sound.
+    pub fn is_sound(&self) -> bool {
+        // A charge tells an unsound ledger before it misses the reference.
+        calls::charge(&self.words, 0).0 != Refusal::UNSOUND.0
+    }
+
+    /// Answers one action, whose profile stands in `words`.
+    pub fn act(&mut self, words: &[u32], action: &Action) -> Answer {
+        let mut answer = [Answer::default()];
+        calls::batch(&mut self.words, words, std::slice::from_ref(action), &mut answer);
+        answer[0]
+    }
+
+    /// Answers each action of a list in turn, into the front of `answers`. With
+    /// fewer answers than actions nothing is done; spare ones are not written.
+    pub fn batch(
+        &mut self,
+        words: &[u32],
+        actions: &[Action],
+        answers: &mut [Answer],
+    ) -> Result<(), Refusal> {
+        Refusal::check(calls::batch(&mut self.words, words, actions, answers))
+    }
+
+    /// The same into a new list of answers.
+    pub fn answers(&mut self, words: &[u32], actions: &[Action]) -> Vec<Answer> {
+        let mut answers = vec![Answer::default(); actions.len()];
+        calls::batch(&mut self.words, words, actions, &mut answers);
+        answers
+    }
+
+    /// The charge of a CONFIRMED row in cents: MW-hours granted × bid ÷ 24, a
+    /// half up.
+    pub fn charge(&self, reference: u32) -> Result<u64, Refusal> {
+        let (number, cents) = calls::charge(&self.words, reference);
+        Refusal::check(number)?;
+        Ok(cents)
+    }
+
+    /// The profile in force, hour by hour of the row's span: granted once given,
+    /// requested before. Empty where the ledger is unsound or has no such
+    /// reference.
+    pub fn profile_in_force(&self, reference: u32) -> Vec<u32> {
+        let mut profile = vec![0; 744];
+        let hours = calls::profile_in_force(&self.words, reference, &mut profile);
+        profile.truncate(hours);
+        profile
+    }
+
+    /// The head, none where there are not even 8 words.
+    pub fn head(&self) -> Option<Head> {
+        let &[rows, hours, provider, window, base, now, used, _] = self.words.get(..HEAD_WORDS)?
+        else {
+            return None;
+        };
+        Some(Head { rows, hours, provider, window, base, now, used })
+    }
+
+    /// The row of a reference that is in use, as its words stand.
+    pub fn row(&self, reference: u32) -> Option<Row<'_>> {
+        let head = self.head()?;
+        if reference == 0 || reference > head.used {
+            return None;
+        }
+        let hours = head.hours as usize;
+        let size = hours.checked_mul(4)?.checked_add(FIELD_WORDS)?;
+        let at = size.checked_mul(reference as usize - 1)?.checked_add(HEAD_WORDS)?;
+        let row = self.words.get(at..at.checked_add(size)?)?;
+        let (fields, profiles) = row.split_at(FIELD_WORDS);
+        let (requested, rest) = profiles.split_at(hours);
+        let (granted, rest) = rest.split_at(hours);
+        let (available, displaced) = rest.split_at(hours);
+        Some(Row {
+            reqtype: RequestType(fields[0]),
+            status: Status(fields[1]),
+            customer: fields[2],
+            seller: fields[3],
+            related: fields[4],
+            start: fields[5],
+            stop: fields[6],
+            flags: Flags(fields[7]),
+            bid: fields[8],
+            offer: fields[9],
+            limit: fields[10],
+            requested,
+            granted,
+            available,
+            displaced,
+        })
+    }
+}
+
+/// The second of an OASIS stamp, counted from 2000-01-01 00:00 UT.
+///
+/// ```
+/// use luddrisa::{read_stamp, Refusal};
+///
+/// assert_eq!(read_stamp(b"20070423060000ES"), Ok(230_641_200));
+/// assert_eq!(read_stamp(b"20070423220070ES"), Err(Refusal::NOT_A_STAMP));
+/// ```
+pub fn read_stamp(bytes: &[u8]) -> Result<u32, Refusal> {
+    let (number, second) = calls::read_stamp(bytes);
+    Refusal::check(number)?;
+    Ok(second)
+}
+
+/// The OASIS stamp of a second in a zone.
+///
+/// ```
+/// use luddrisa::{write_stamp, Zone};
+///
+/// assert_eq!(&write_stamp(5_097_600, Zone::UT).unwrap(), b"20000229000000UT");
+/// ```
+pub fn write_stamp(second: u32, zone: Zone) -> Result<[u8; 16], Refusal> {
+    let mut bytes = [0; 16];
+    Refusal::check(calls::write_stamp(&mut bytes, second, zone.0))?;
+    Ok(bytes)
+}

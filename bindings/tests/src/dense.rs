@@ -1,0 +1,276 @@
+//! Any kind on any sound ledger: rows built at random, in any status, with words
+//! near 100,000, and actions by the right party most of the time.
+
+use luddrisa_model::*;
+
+use crate::lists::{disturb, submission, with_profile, Words};
+use crate::rng::Rng;
+use crate::run::{Difference, Run, Twice};
+
+const WORDS: [u32; 8] = [0, 0, 1, 40, 50_000, 99_960, 99_999, 100_000];
+
+fn word(rng: &mut Rng) -> u32 {
+    if rng.chance(30) {
+        rng.below(100)
+    } else {
+        rng.pick(&WORDS)
+    }
+}
+
+fn price(rng: &mut Rng) -> u32 {
+    rng.pick(&[0, 0, 1, 500, MAX_PRICE])
+}
+
+/// A sound ledger that need not come from any list.
+pub fn sound_ledger(rng: &mut Rng, most_rows: u32, most_hours: u32) -> Vec<u32> {
+    let rows = rng.from_to(1, most_rows);
+    let hours = rng.from_to(1, most_hours);
+    let mut ledger = vec![0; ledger_words(rows, hours)];
+    let provider = rng.pick(&[1, 65_535]);
+    let window = rng.pick(&[1, 3_600, MAX_WINDOW]);
+    assert_eq!(create(&mut ledger, rows, hours, provider, window, END_HOUR - hours), 0);
+    ledger[NOW] = rng.pick(&[0, 3_600, 1_000_000, END_SECOND - 1]);
+    let used =
+        if rng.chance(10) { rng.below(rows + 1) } else { rng.from_to(rows.div_ceil(2), rows) };
+    let relinquishes = rng.chance(30);
+    for reference in 1..=used {
+        ledger[USED] = reference;
+        let wish = if relinquishes {
+            // An original, a redirect of it, and what gives megawatts back.
+            match reference {
+                1 => ORIGINAL_FIRM,
+                2 => REDIRECT_NON_FIRM,
+                _ => RELINQUISH,
+            }
+        } else {
+            rng.from_to(ORIGINAL_FIRM, RELINQUISH)
+        };
+        fill_row(rng, &mut ledger, reference, wish);
+        if relinquishes && reference == 2 && rng.chance(70) {
+            Row::of(&ledger, reference).set(&mut ledger, STATUS, CONFIRMED);
+        }
+    }
+    assert!(sound(&ledger), "a dense ledger is sound");
+    ledger
+}
+
+/// A used row of the type wished for, or an original where no row above fits.
+fn fill_row(rng: &mut Rng, ledger: &mut [u32], reference: u32, wish: u32) {
+    let row = Row::of(ledger, reference);
+    let hours = ledger[HOURS];
+    // The type, and a row above that it may be related to.
+    let mut reqtype = wish;
+    let fits = |above: &u32| {
+        let of = Row::of(ledger, *above).get(ledger, TYPE);
+        match reqtype {
+            ORIGINAL_FIRM | ORIGINAL_NON_FIRM => false,
+            RELINQUISH => of == REDIRECT_NON_FIRM,
+            _ => of != REDIRECT_NON_FIRM && of != RELINQUISH,
+        }
+    };
+    let above: Vec<u32> = (1..reference).filter(fits).collect();
+    let (mut start, mut stop) = (0, hours);
+    let mut related = 0;
+    if above.is_empty() {
+        reqtype = rng.from_to(ORIGINAL_FIRM, ORIGINAL_NON_FIRM);
+    } else {
+        related = above[rng.late(above.len())];
+        start = Row::of(ledger, related).get(ledger, START);
+        stop = Row::of(ledger, related).get(ledger, STOP);
+    }
+    if rng.chance(40) {
+        start = rng.from_to(start, stop - 1);
+        stop = rng.from_to(start + 1, stop);
+    }
+    let status = if rng.chance(40) {
+        CONFIRMED
+    } else if rng.chance(70) {
+        rng.pick(&[
+            QUEUED,
+            RECEIVED,
+            STUDY,
+            COUNTEROFFER,
+            CR_COUNTEROFFER,
+            REBID,
+            ACCEPTED,
+            CR_ACCEPTED,
+        ])
+    } else {
+        rng.from_to(QUEUED, RETRACTED)
+    };
+    let provider = ledger[PROVIDER];
+    let trades = matches!(reqtype, RESALE | PART_TRANSFER | FULL_TRANSFER);
+    let seller = if rng.chance(10) {
+        rng.pick(&[1, 10, 11])
+    } else if trades {
+        Row::of(ledger, related).get(ledger, CUSTOMER)
+    } else {
+        provider
+    };
+    let bid = price(rng);
+    let offer = if rng.chance(60) { bid } else { price(rng) };
+    let now = ledger[NOW];
+    let limit = rng.pick(&[0, now, now, now + 1, now.saturating_sub(1), END_LIMIT - 1]);
+    let fields = [
+        reqtype,
+        status,
+        rng.pick(&[provider, 10, 11, 12]),
+        seller,
+        related,
+        start,
+        stop,
+        rng.below(MAX_FLAGS + 1),
+        bid,
+        offer,
+        limit,
+    ];
+    ledger[row.at..row.at + fields.len()].copy_from_slice(&fields);
+
+    // Profiles that agree with each other, and with the row above, now and then.
+    let span = (start as usize)..(stop as usize);
+    let fits_above = related != 0 && rng.chance(60);
+    let takes_all = rng.chance(40);
+    let agrees = rng.chance(65);
+    let untouched = rng.chance(60);
+    let never_displaced = rng.chance(60);
+    for hour in span {
+        let mut requested = word(rng);
+        if fits_above {
+            let has = ledger[Row::of(ledger, related).profile(AVAILABLE).start + hour];
+            requested = if takes_all { has } else { requested.min(has) };
+        }
+        let granted = if agrees { requested } else { word(rng).min(requested) };
+        let available = if untouched { granted } else { word(rng) };
+        let displaced = if never_displaced { 0 } else { word(rng) };
+        for (profile, mw) in [requested, granted, available, displaced].into_iter().enumerate() {
+            ledger[row.profile(profile).start + hour] = mw;
+        }
+    }
+}
+
+/// An action that may well be accepted on a ledger of any kind.
+pub fn any_action(rng: &mut Rng, ledger: &[u32], words: &mut Words) -> Action {
+    let kind = rng.pick(&[1, 2, 2, 2, 2, 3, 3, 3, 4, 5, 6, 6, 7]);
+    let used = ledger[USED];
+    let provider = ledger[PROVIDER];
+    let mut action = if kind == CLOCK {
+        let now = ledger[NOW];
+        let time = rng.pick(&[now, now + 1, now.wrapping_sub(1), END_SECOND - 1, END_SECOND]);
+        Action { kind, actor: provider, time, ..Action::default() }
+    } else if kind == SUBMIT || used == 0 {
+        submission(rng, ledger, words)
+    } else {
+        on_row(rng, ledger, words, kind)
+    };
+    if rng.chance(10) {
+        action.actor = rng.pick(&[provider, 10, 11, 12, 0, 65_535]);
+    }
+    if rng.chance(8) {
+        return disturb(rng, action);
+    }
+    action
+}
+
+fn on_row(rng: &mut Rng, ledger: &[u32], words: &mut Words, kind: u32) -> Action {
+    let reference = rng.from_to(1, ledger[USED]);
+    let row = Row::of(ledger, reference);
+    let from = row.get(ledger, STATUS);
+    let statuses: &[u32] = match (kind, from) {
+        (SELLER_STATUS, CONFIRMED) => &[DISPLACED, ANNULLED, ANNULLED],
+        (SELLER_STATUS, _) => &[2, 3, 4, 5, 6, 7, 9, 10, 10, 10, 10, 11, 11, 12, 15, 16],
+        (CUSTOMER_STATUS, _) => &[REBID, CONFIRMED, CONFIRMED, CONFIRMED, WITHDRAWN],
+        _ => &[0],
+    };
+    let status = if rng.chance(5) { rng.from_to(0, 18) } else { rng.pick(statuses) };
+    let actor = match kind {
+        SELLER_STATUS if rng.chance(90) => row.get(ledger, SELLER),
+        CUSTOMER_STATUS => row.get(ledger, CUSTOMER),
+        _ => ledger[PROVIDER],
+    };
+    let price = match rng.below(20) {
+        0 => MAX_PRICE + 1,
+        1 => price(rng),
+        _ if kind == SELLER_STATUS => row.get(ledger, BID),
+        _ => row.get(ledger, OFFER),
+    };
+    let action = Action { kind, actor, reference, status, price, ..Action::default() };
+    let comes = if kind == REDUCE { rng.chance(95) } else { rng.chance(45) };
+    if !comes {
+        return Action { offset: rng.pick(&[0, u32::MAX]), ..action };
+    }
+    let part = |profile: usize| ledger[row.span(ledger, profile)].to_vec();
+    let source = match kind {
+        SELLER_STATUS => REQUESTED,
+        CUSTOMER_STATUS => GRANTED,
+        _ => AVAILABLE,
+    };
+    let mut profile = part(rng.pick(&[source, source, source, REQUESTED, GRANTED, AVAILABLE]));
+    if rng.chance(30) {
+        let hour = rng.below(profile.len() as u32) as usize;
+        profile[hour] = match rng.below(4) {
+            0 => profile[hour] + 1,
+            1 => profile[hour].saturating_sub(1),
+            2 => 0,
+            _ => word(rng),
+        };
+    }
+    if rng.chance(3) {
+        profile.push(1);
+    }
+    with_profile(words, action, &profile)
+}
+
+/// So many ledgers, a few actions on each.
+pub fn dense(run: &mut Run, seed: u64, count: u32) -> Result<(), Difference> {
+    for number in 0..count {
+        let seed = seed + u64::from(number);
+        let rng = &mut Rng::new(seed);
+        one_ledger(run, rng).map_err(|difference| format!("dense, seed {seed}: {difference}"))?;
+    }
+    Ok(())
+}
+
+fn one_ledger(run: &mut Run, rng: &mut Rng) -> Result<(), Difference> {
+    let start = Twice::new(&sound_ledger(rng, 7, 5));
+    let mut ledger = start.clone();
+    let mut words = Words::new();
+    for number in 0..24 {
+        // Mostly on the ledger as built, now and then on from there.
+        if number % 3 == 0 {
+            ledger = start.clone();
+        }
+        let action = any_action(rng, ledger.words(), &mut words);
+        run.act(&mut ledger, &words, &action)?;
+    }
+    if rng.chance(20) {
+        run.read_all_out(&ledger)?;
+    }
+    Ok(())
+}
+
+/// The greatest ledger, full, with a few actions of each kind.
+pub fn greatest(run: &mut Run, seed: u64) -> Result<(), Difference> {
+    let rng = &mut Rng::new(seed);
+    let mut words = vec![0; ledger_words(MAX_ROWS, MAX_HOURS)];
+    assert_eq!(create(&mut words, MAX_ROWS, MAX_HOURS, 1, 3_600, 0), 0);
+    for reference in 1..=MAX_ROWS {
+        words[USED] = reference;
+        let wish = rng.from_to(ORIGINAL_FIRM, RELINQUISH);
+        fill_row(rng, &mut words, reference, wish);
+    }
+    let mut ledger = Twice::new(&words);
+    let mut profiles = Words::new();
+    let tell = |difference| format!("greatest, seed {seed}: {difference}");
+    for _ in 0..40 {
+        let action = any_action(rng, ledger.words(), &mut profiles);
+        run.act(&mut ledger, &profiles, &action).map_err(tell)?;
+    }
+    run.read_out(&ledger, MAX_ROWS).map_err(tell)?;
+    // The very last word, one over.
+    let last = words.len() - 1;
+    ledger.set(last, MAX_MW + 1);
+    let action = Action { kind: 9, ..Action::default() };
+    let answer = run.act(&mut ledger, &profiles, &action).map_err(tell)?;
+    assert_eq!(answer.number, BAD_LEDGER);
+    Ok(())
+}

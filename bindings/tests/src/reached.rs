@@ -1,0 +1,254 @@
+//! What document 01 lists and the tests must reach, written down from the paper.
+
+use std::collections::{BTreeMap, BTreeSet};
+
+use luddrisa_model::*;
+
+/// Stands for every kind that is not 1 to 7.
+pub const NO_KIND: u32 = 0;
+
+/// Each kind with the numbers it can give; a 1 here is an unsound ledger.
+pub const PAIRS: [(u32, &[u32]); 8] = [
+    (NO_KIND, &[1, 2]),
+    (SUBMIT, &[0, 1, 2, 3, 6, 7, 8, 9, 10, 12]),
+    // 13 never: an unapproved transfer stays at 10.
+    (SELLER_STATUS, &[0, 1, 2, 3, 4, 7, 9, 11, 12, 14, 15]),
+    (CUSTOMER_STATUS, &[0, 1, 2, 3, 4, 7, 9, 11, 12, 13, 14]),
+    // 13 never: it counts as approved.
+    (APPROVE, &[0, 1, 3, 4, 9, 11, 14]),
+    (REDUCE, &[0, 1, 3, 4, 7, 11, 14]),
+    (LAPSE, &[0, 1, 3, 4, 9, 11, 13, 14, 16]),
+    (CLOCK, &[0, 1, 3, 5]),
+];
+
+/// The kinds that can give 1 on a sound ledger, for a word over 100,000:
+/// displacing, annulling and confirming a type 8 row.
+pub const OVER_BOUND: [u32; 3] = [SELLER_STATUS, CUSTOMER_STATUS, LAPSE];
+
+/// The numbers of the other calls.
+pub const CHARGE: [u32; 4] = [0, 1, 4, 11];
+pub const CREATE: [u32; 2] = [0, 1];
+pub const BATCH: [u32; 2] = [0, 17];
+pub const READ_STAMP: [u32; 2] = [0, 18];
+pub const WRITE_STAMP: [u32; 2] = [0, 19];
+
+const OPEN: [u32; 8] = [1, 3, 4, 6, 7, 8, 10, 11];
+
+/// Accepted moves: kind, status after, statuses before.
+const MOVES: [(u32, u32, &[u32]); 23] = [
+    (SUBMIT, 1, &[0]),
+    (SELLER_STATUS, 3, &[1]),
+    (SELLER_STATUS, 4, &[1, 3]),
+    (SELLER_STATUS, 2, &[1, 3, 4]),
+    (SELLER_STATUS, 5, &[1, 3, 4, 8]),
+    (SELLER_STATUS, 12, &[1, 3, 4, 8]),
+    (SELLER_STATUS, 9, &OPEN),
+    (SELLER_STATUS, 6, &[1, 3, 4, 8, 10, 11]),
+    (SELLER_STATUS, 7, &[1, 3, 4, 8, 10, 11]),
+    (SELLER_STATUS, 10, &[1, 3, 4, 8]),
+    (SELLER_STATUS, 11, &[1, 3, 4, 8]),
+    // A preconfirmed row moved to 10.
+    (SELLER_STATUS, 13, &[1, 3, 4, 8]),
+    (SELLER_STATUS, 15, &[13]),
+    (SELLER_STATUS, 16, &[13]),
+    (SELLER_STATUS, 16, &OPEN),
+    (CUSTOMER_STATUS, 8, &[6, 7]),
+    (CUSTOMER_STATUS, 13, &[6, 7, 10, 11]),
+    (CUSTOMER_STATUS, 14, &OPEN),
+    // An approval that does not confirm leaves any open status as it is.
+    (APPROVE, 13, &[10]),
+    (REDUCE, 13, &[13]),
+    (LAPSE, 17, &[6, 7, 10, 11]),
+    (LAPSE, 13, &[11]),
+    (CLOCK, 0, &[0]),
+];
+
+/// What an accepted action did with megawatts.
+#[derive(Clone, Copy, Debug, PartialEq, Eq, PartialOrd, Ord)]
+pub enum Moved {
+    Confirmed,
+    Annulled,
+    Displaced,
+    Reduced,
+}
+
+/// Where megawatts were given back.
+#[derive(Clone, Copy, Debug, PartialEq, Eq, PartialOrd, Ord)]
+pub enum Back {
+    Nowhere,
+    ToAvailable,
+    ToDisplaced,
+}
+
+type Effect = (u32, Moved, u32, Back);
+
+/// What a run reached.
+#[derive(Clone, Debug, Default)]
+pub struct Reached {
+    /// Kind, number, and whether it is a 1 on a sound ledger; how often.
+    pairs: BTreeMap<(u32, u32, bool), u64>,
+    /// Kind, status before, status after of accepted actions.
+    moves: BTreeSet<(u32, u32, u32)>,
+    effects: BTreeSet<Effect>,
+    calls: BTreeSet<(&'static str, u32)>,
+}
+
+impl Reached {
+    /// Notes an answer; the ledger is as the action left it.
+    pub fn note(&mut self, ledger: &[u32], action: &Action, answer: &Answer) {
+        let kind = if (SUBMIT..=CLOCK).contains(&action.kind) { action.kind } else { NO_KIND };
+        let over_bound = answer.number == BAD_LEDGER && sound(ledger);
+        *self.pairs.entry((kind, answer.number, over_bound)).or_default() += 1;
+        if answer.number != 0 {
+            return;
+        }
+        self.moves.insert((kind, answer.before, answer.after));
+        let moved = match (kind, answer.before, answer.after) {
+            (REDUCE, _, _) => Moved::Reduced,
+            (_, CONFIRMED, ANNULLED) => Moved::Annulled,
+            (_, CONFIRMED, DISPLACED) => Moved::Displaced,
+            (_, _, CONFIRMED) => Moved::Confirmed,
+            _ => return,
+        };
+        let row = Row::of(ledger, answer.reference);
+        let reqtype = row.get(ledger, TYPE);
+        let related = row.get(ledger, RELATED);
+        let receiver = match (moved, reqtype) {
+            (Moved::Annulled, RESALE..=FULL_TRANSFER) => Some(related),
+            (Moved::Confirmed, RELINQUISH) => Some(Row::of(ledger, related).get(ledger, RELATED)),
+            _ => None,
+        };
+        let back = match receiver.map(|above| Row::of(ledger, above).get(ledger, STATUS)) {
+            None => Back::Nowhere,
+            Some(CONFIRMED) => Back::ToAvailable,
+            Some(_) => Back::ToDisplaced,
+        };
+        self.effects.insert((kind, moved, reqtype, back));
+    }
+
+    pub fn note_call(&mut self, call: &'static str, number: u32) {
+        self.calls.insert((call, number));
+    }
+
+    /// The pairs reached and how often, a line for each kind.
+    pub fn told(&self) -> String {
+        let mut lines = String::new();
+        for (kind, _) in PAIRS {
+            lines.push_str(&format!("kind {kind}:"));
+            for (&(_, number, over), times) in self.pairs.iter().filter(|(pair, _)| pair.0 == kind)
+            {
+                let mark = if over { " (word over 100,000)" } else { "" };
+                lines.push_str(&format!(" {number}{mark} × {times};"));
+            }
+            lines.push('\n');
+        }
+        lines
+    }
+
+    /// The tables against what was reached: nothing missing, nothing beside.
+    pub fn check(&self) -> Result<(), String> {
+        let pairs = self.pairs.keys().copied().collect();
+        same("pair (kind, number, word over 100,000)", &listed_pairs(), &pairs)?;
+        same("move (kind, before, after)", &listed_moves(), &self.moves)?;
+        same("effect (kind, moved, type, given back)", &listed_effects(), &self.effects)?;
+        same("call (name, number)", &listed_calls(), &self.calls)
+    }
+}
+
+fn same<T: Ord + std::fmt::Debug>(
+    what: &str,
+    listed: &BTreeSet<T>,
+    reached: &BTreeSet<T>,
+) -> Result<(), String> {
+    let missing: Vec<_> = listed.difference(reached).collect();
+    let beside: Vec<_> = reached.difference(listed).collect();
+    if missing.is_empty() && beside.is_empty() {
+        return Ok(());
+    }
+    Err(format!("{what}: never reached {missing:?}, not in the paper {beside:?}"))
+}
+
+pub fn listed_pairs() -> BTreeSet<(u32, u32, bool)> {
+    let plain = PAIRS
+        .iter()
+        .flat_map(|&(kind, numbers)| numbers.iter().map(move |&number| (kind, number, false)));
+    let over = OVER_BOUND.iter().map(|&kind| (kind, BAD_LEDGER, true));
+    plain.chain(over).collect()
+}
+
+pub fn listed_moves() -> BTreeSet<(u32, u32, u32)> {
+    let moves = MOVES
+        .iter()
+        .flat_map(|&(kind, after, befores)| befores.iter().map(move |&b| (kind, b, after)));
+    let approvals = OPEN.iter().map(|&status| (APPROVE, status, status));
+    moves.chain(approvals).collect()
+}
+
+pub fn listed_effects() -> BTreeSet<Effect> {
+    let mut effects = BTreeSet::new();
+    for kind in [SELLER_STATUS, CUSTOMER_STATUS, LAPSE] {
+        for reqtype in ORIGINAL_FIRM..=FULL_TRANSFER {
+            effects.insert((kind, Moved::Confirmed, reqtype, Back::Nowhere));
+        }
+        effects.insert((kind, Moved::Confirmed, RELINQUISH, Back::ToAvailable));
+        effects.insert((kind, Moved::Confirmed, RELINQUISH, Back::ToDisplaced));
+    }
+    for reqtype in [PART_TRANSFER, FULL_TRANSFER] {
+        effects.insert((APPROVE, Moved::Confirmed, reqtype, Back::Nowhere));
+    }
+    for reqtype in ORIGINAL_FIRM..=FULL_TRANSFER {
+        effects.insert((SELLER_STATUS, Moved::Displaced, reqtype, Back::Nowhere));
+        effects.insert((REDUCE, Moved::Reduced, reqtype, Back::Nowhere));
+        if reqtype <= ORIGINAL_NON_FIRM {
+            effects.insert((SELLER_STATUS, Moved::Annulled, reqtype, Back::Nowhere));
+        } else {
+            effects.insert((SELLER_STATUS, Moved::Annulled, reqtype, Back::ToAvailable));
+            effects.insert((SELLER_STATUS, Moved::Annulled, reqtype, Back::ToDisplaced));
+        }
+    }
+    effects
+}
+
+fn listed_calls() -> BTreeSet<(&'static str, u32)> {
+    let calls: [(&str, &[u32]); 5] = [
+        ("charge", &CHARGE),
+        ("create", &CREATE),
+        ("batch", &BATCH),
+        ("read stamp", &READ_STAMP),
+        ("write stamp", &WRITE_STAMP),
+    ];
+    calls.iter().flat_map(|&(call, numbers)| numbers.iter().map(move |&n| (call, n))).collect()
+}
+
+#[cfg(test)]
+mod tests {
+    use super::*;
+
+    #[test]
+    fn the_tables_hold_what_the_paper_lists() {
+        assert_eq!(listed_pairs().len(), 64);
+        // Kinds 2 and 3 move as the paper's two lists say.
+        let of = |kind| listed_moves().iter().filter(|mv| mv.0 == kind).count();
+        assert_eq!(of(SELLER_STATUS), 1 + 2 + 3 + 4 + 4 + 8 + 6 + 6 + 4 + 4 + 4 + 1 + 1 + 8);
+        assert_eq!(of(CUSTOMER_STATUS), 2 + 4 + 8);
+        assert_eq!(of(APPROVE), 8 + 1);
+        assert_eq!(listed_effects().len(), 3 * 9 + 2 + 7 + 7 + 2 + 5 * 2);
+    }
+
+    #[test]
+    fn a_pair_never_reached_is_seen() {
+        let mut reached = Reached::default();
+        assert!(reached.check().is_err());
+        let once = || listed_pairs().into_iter().map(|pair| (pair, 1)).collect();
+        reached.pairs = once();
+        reached.moves = listed_moves();
+        reached.effects = listed_effects();
+        reached.calls = listed_calls();
+        assert_eq!(reached.check(), Ok(()));
+        reached.pairs.remove(&(LAPSE, NOT_APPROVED, false));
+        assert!(reached.check().unwrap_err().contains("(6, 13, false)"));
+        reached.pairs = once();
+        reached.pairs.insert((SELLER_STATUS, NOT_APPROVED, false), 1);
+        assert!(reached.check().unwrap_err().contains("(2, 13, false)"));
+    }
+}

@@ -1,0 +1,144 @@
+//! What is tested: the six calls, by whomever they are carried out.
+
+use luddrisa_model as model;
+pub use luddrisa_model::{Action, Answer};
+
+/// The calls of document 01 over slices, with their numbers.
+pub trait Rules {
+    /// Numbers are rows, hours, provider, window, base.
+    fn create(&self, ledger: &mut [u32], numbers: [u32; 5]) -> u32;
+    fn batch(
+        &self,
+        ledger: &mut [u32],
+        words: &[u32],
+        actions: &[Action],
+        answers: &mut [Answer],
+    ) -> u32;
+    fn charge(&self, ledger: &[u32], reference: u32) -> (u32, u64);
+    fn profile_in_force(&self, ledger: &[u32], reference: u32, out: &mut [u32]) -> usize;
+    fn read_stamp(&self, bytes: &[u8]) -> (u32, u32);
+    fn write_stamp(&self, bytes: &mut [u8], second: u32, zone: u32) -> u32;
+}
+
+/// The model.
+pub struct Model;
+
+impl Rules for Model {
+    fn create(&self, ledger: &mut [u32], [rows, hours, provider, window, base]: [u32; 5]) -> u32 {
+        model::create(ledger, rows, hours, provider, window, base)
+    }
+
+    fn batch(
+        &self,
+        ledger: &mut [u32],
+        words: &[u32],
+        actions: &[Action],
+        answers: &mut [Answer],
+    ) -> u32 {
+        model::batch(ledger, words, actions, answers)
+    }
+
+    fn charge(&self, ledger: &[u32], reference: u32) -> (u32, u64) {
+        match model::charge(ledger, reference) {
+            Ok(cents) => (0, cents),
+            Err(number) => (number, 0),
+        }
+    }
+
+    fn profile_in_force(&self, ledger: &[u32], reference: u32, out: &mut [u32]) -> usize {
+        let profile = model::profile_in_force(ledger, reference);
+        if let Some(front) = out.get_mut(..profile.len()) {
+            front.copy_from_slice(profile);
+        }
+        profile.len()
+    }
+
+    fn read_stamp(&self, bytes: &[u8]) -> (u32, u32) {
+        match model::read_stamp(bytes) {
+            Ok(second) => (0, second),
+            Err(number) => (number, 0),
+        }
+    }
+
+    fn write_stamp(&self, bytes: &mut [u8], second: u32, zone: u32) -> u32 {
+        model::write_stamp(bytes, second, zone)
+    }
+}
+
+/// The static library.
+#[cfg(feature = "archive")]
+pub struct Library;
+
+#[cfg(feature = "archive")]
+pub fn to_library(action: &Action) -> luddrisa::Action {
+    luddrisa::Action {
+        kind: action.kind,
+        actor: action.actor,
+        reference: action.reference,
+        reqtype: action.reqtype,
+        status: action.status,
+        seller: action.seller,
+        related: action.related,
+        start: action.start,
+        stop: action.stop,
+        flags: action.flags,
+        price: action.price,
+        time: action.time,
+        offset: action.offset,
+        length: action.length,
+    }
+}
+
+#[cfg(feature = "archive")]
+impl Rules for Library {
+    fn create(&self, ledger: &mut [u32], [rows, hours, provider, window, base]: [u32; 5]) -> u32 {
+        luddrisa::calls::create(ledger, rows, hours, provider, window, base)
+    }
+
+    fn batch(
+        &self,
+        ledger: &mut [u32],
+        words: &[u32],
+        actions: &[Action],
+        answers: &mut [Answer],
+    ) -> u32 {
+        let actions: Vec<_> = actions.iter().map(to_library).collect();
+        let mut places: Vec<_> = answers
+            .iter()
+            .map(|answer| luddrisa::Answer {
+                number: answer.number,
+                reference: answer.reference,
+                before: answer.before,
+                after: answer.after,
+                moved: answer.moved,
+            })
+            .collect();
+        let number = luddrisa::calls::batch(ledger, words, &actions, &mut places);
+        for (answer, place) in answers.iter_mut().zip(places) {
+            *answer = Answer {
+                number: place.number,
+                reference: place.reference,
+                before: place.before,
+                after: place.after,
+                moved: place.moved,
+            };
+        }
+        number
+    }
+
+    fn charge(&self, ledger: &[u32], reference: u32) -> (u32, u64) {
+        luddrisa::calls::charge(ledger, reference)
+    }
+
+    fn profile_in_force(&self, ledger: &[u32], reference: u32, out: &mut [u32]) -> usize {
+        luddrisa::calls::profile_in_force(ledger, reference, out)
+    }
+
+    fn read_stamp(&self, bytes: &[u8]) -> (u32, u32) {
+        luddrisa::calls::read_stamp(bytes)
+    }
+
+    fn write_stamp(&self, bytes: &mut [u8], second: u32, zone: u32) -> u32 {
+        luddrisa::calls::write_stamp(bytes, second, zone)
+    }
+}

@@ -1,0 +1,125 @@
+//! The library against the model, or without the archive the model against
+//! itself; and in both cases the model against models with a planted fault.
+
+use std::io::Write;
+use std::time::Instant;
+
+use luddrisa_tests::faults::FAULTS;
+use luddrisa_tests::rules::{Model, Rules};
+use luddrisa_tests::run::{Difference, Run};
+use luddrisa_tests::{batches, dense, edges, lists, stamps};
+
+#[cfg(feature = "archive")]
+const SUBJECT: &dyn Rules = &luddrisa_tests::rules::Library;
+#[cfg(not(feature = "archive"))]
+const SUBJECT: &dyn Rules = &Model;
+
+const SEED: u64 = 20_070_423;
+
+/// Tells a difference, with its seed, before the test fails: straight to the
+/// standard error, where it is seen even if a panic ends the whole program.
+fn expect_agreement(outcome: Result<(), Difference>) {
+    if let Err(difference) = &outcome {
+        writeln!(std::io::stderr(), "{difference}").expect("standard error");
+    }
+    assert_eq!(outcome, Ok(()));
+}
+
+/// Every generator, so many times over.
+fn everything(run: &mut Run, seed: u64, scale: u32) -> Result<(), Difference> {
+    edges::creations(run)?;
+    edges::sizes(run)?;
+    lists::lists(run, seed, 15 * scale)?;
+    dense::dense(run, seed, 100 * scale)?;
+    edges::edges(run, seed, 2 * scale)?;
+    batches::batches(run, seed, 4 * scale)?;
+    stamps::stamps(run, seed, 200 * scale)
+}
+
+#[test]
+fn all_agree_and_every_pair_is_reached() {
+    let mut run = Run::new(SUBJECT);
+    let start = Instant::now();
+    let agree = everything(&mut run, SEED, 200).and_then(|()| dense::greatest(&mut run, SEED));
+    let seconds = start.elapsed().as_secs_f64();
+    println!("{} actions in {seconds:.1} s\n{}", run.actions, run.reached.told());
+    expect_agreement(agree);
+    expect_agreement(run.reached.check());
+    assert!(run.actions >= 500_000, "only {} actions", run.actions);
+    if !cfg!(debug_assertions) {
+        assert!(seconds < 120.0, "took {seconds:.1} s");
+    }
+}
+
+#[test]
+fn planted_faults_are_caught() {
+    // Without a fault the same seeds find nothing.
+    assert_eq!(everything(&mut Run::new(&Model), SEED, 5), Ok(()));
+    let mut missed = Vec::new();
+    for faulty in FAULTS {
+        let mut run = Run::new(faulty);
+        match everything(&mut run, SEED, 5) {
+            Ok(()) => missed.push(faulty.name),
+            Err(difference) => {
+                let told: String = difference.chars().take(100).collect();
+                println!("{}: {} actions, {told}", faulty.name, run.actions);
+            }
+        }
+    }
+    assert!(missed.is_empty(), "not caught: {missed:?}");
+    assert!(FAULTS.len() > 60);
+}
+
+#[test]
+fn the_balance_alone_catches_lost_megawatts() {
+    let lists = |subject: &dyn Rules| {
+        (SEED..SEED + 400).find_map(|seed| lists::balance_of(subject, seed).err())
+    };
+    expect_agreement(lists(SUBJECT).map_or(Ok(()), Err));
+    let unbalanced: Vec<_> = FAULTS.iter().filter(|faulty| faulty.unbalanced).collect();
+    assert!(unbalanced.len() >= 6);
+    for faulty in unbalanced {
+        assert!(lists(faulty).is_some(), "not caught: {}", faulty.name);
+    }
+}
+
+/// The lists do go deep: resale of redirect of resale, and all the rest.
+#[test]
+fn lists_reach_deep_chains() {
+    use luddrisa_model::*;
+    let mut run = Run::new(SUBJECT);
+    let mut deepest = 0;
+    let mut resale_of_redirect_of_resale = 0;
+    let mut accepted = 0;
+    let mut all = 0;
+    for seed in SEED..SEED + 300 {
+        let rng = &mut luddrisa_tests::rng::Rng::new(seed);
+        let answered = match lists::list(&mut run, rng, 120) {
+            Ok(answered) => answered,
+            Err(difference) => return expect_agreement(Err(format!("seed {seed}: {difference}"))),
+        };
+        all += answered.answers.len();
+        accepted += answered.answers.iter().filter(|answer| answer.number == 0).count();
+        let ledger = answered.ledger.words();
+        for reference in 1..=ledger[USED] {
+            let mut chain = Vec::new();
+            let mut at = reference;
+            while at != 0 {
+                let row = Row::of(ledger, at);
+                chain.push((row.get(ledger, TYPE), row.get(ledger, STATUS)));
+                at = row.get(ledger, RELATED);
+            }
+            if chain.iter().all(|&(_, status)| matches!(status, CONFIRMED | DISPLACED)) {
+                deepest = deepest.max(chain.len());
+                let types: Vec<_> = chain.iter().map(|&(reqtype, _)| reqtype).collect();
+                if types.windows(3).any(|three| three == [RESALE, REDIRECT_FIRM, RESALE]) {
+                    resale_of_redirect_of_resale += 1;
+                }
+            }
+        }
+    }
+    println!("{accepted} of {all} accepted, chains to {deepest} rows, {resale_of_redirect_of_resale} of the kind named");
+    assert!(deepest >= 6, "only {deepest}");
+    assert!(resale_of_redirect_of_resale >= 10, "only {resale_of_redirect_of_resale}");
+    assert!(accepted * 2 > all, "only {accepted} of {all} accepted");
+}

@@ -1,0 +1,28 @@
+-- `ledger::act` meets its contract.
+use mathlib.Core.Path.{ap, _∙_}
+use mathlib.Core.Bool.{Bool}
+use Rattle.rules.specs.Act.{step, outcome}
+use borrow.Author.Needs.{needs}
+use Rattle.ledger.proofs.act.Statement.{statement}
+use Rattle.ledger.proofs.act.Tie as tie
+
+sound-requires : tie.Need-sound-requires
+sound-requires c κs = search needs
+
+step-requires : tie.Need-step-requires
+step-requires c κs = search needs
+
+same-length : tie.Need-same-length
+same-length c = search needs
+
+returns : tie.Need-returns
+unfolding outcome
+returns c =
+    let s = c .before .before .before .before .before .before .before .before in
+    let e = c .before .before .before .before .sound .ensures in (
+      c .before .before .step .ensures .0 ∙ ap (λ (b : Bool). step b (s .args .l .now) (s .args .words .now) (s .args .a) .answer) e,
+      c .before .before .step .ensures .1 ∙ ap (λ (b : Bool). step b (s .args .l .now) (s .args .words .now) (s .args .a) .ledger) e,
+    )
+
+pub act-spec : {M : Type 1} → statement M
+act-spec = tie.close (tie.spec sound-requires step-requires same-length returns)

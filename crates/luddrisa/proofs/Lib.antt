@@ -1,0 +1,5 @@
+pub mod Clauses
+pub mod Fold
+pub mod Lending
+pub mod Handing
+pub mod Together
