@@ -12,6 +12,7 @@ use std::time::Instant;
 
 use luddrisa::{calls, Action, Answer, Flags, ProfileAt, RequestType, Status};
 use luddrisa_model as model;
+use luddrisa_tests::converted::action_to_model;
 
 const PROVIDER: u32 = 1;
 const HOLDER: u32 = 10;
@@ -79,25 +80,6 @@ fn side_by_side<S>(
         );
     }
     rounds
-}
-
-fn to_model(action: &Action) -> model::Action {
-    model::Action {
-        kind: action.kind,
-        actor: action.actor,
-        reference: action.reference,
-        reqtype: action.reqtype,
-        status: action.status,
-        seller: action.seller,
-        related: action.related,
-        start: action.start,
-        stop: action.stop,
-        flags: action.flags,
-        price: action.price,
-        time: action.time,
-        offset: action.offset,
-        length: action.length,
-    }
 }
 
 /// A ledger whose rows are all confirmed originals over all hours.
@@ -185,7 +167,7 @@ fn soundness() {
 /// (b) One reduction on that ledger against the model.
 fn reduction() {
     let (profile, list) = reductions(1, 1, 744);
-    let action = to_model(&list[0]);
+    let action = action_to_model(&list[0]);
     let rounds = side_by_side(
         61,
         &mut full_ledger(1_024, 744),
@@ -212,7 +194,7 @@ fn batch_of_reductions() {
 /// actions, each side's day timed by itself.
 fn mixed_actions() {
     let mixed = mixed::mixed();
-    let for_model: Vec<_> = mixed.actions.iter().map(to_model).collect();
+    let for_model: Vec<_> = mixed.actions.iter().map(action_to_model).collect();
     let days = 1_000_000 / mixed.actions.len();
     let mut fresh = vec![0; model::ledger_words(mixed::ROWS, mixed::HOURS)];
     assert_eq!(calls::create(&mut fresh, mixed::ROWS, mixed::HOURS, PROVIDER, 3_600, 0), 0);

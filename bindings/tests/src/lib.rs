@@ -7,6 +7,7 @@
 //! models with a planted fault; the tests prove that each is caught.
 
 pub mod batches;
+pub mod converted;
 pub mod dense;
 pub mod edges;
 pub mod faults;

@@ -1,5 +1,7 @@
 //! What is tested: the six calls, by whomever they are carried out.
 
+#[cfg(feature = "archive")]
+use crate::converted::{action_to_library, answer_to_library, answer_to_model};
 use luddrisa_model as model;
 pub use luddrisa_model::{Action, Answer};
 
@@ -70,26 +72,6 @@ impl Rules for Model {
 pub struct Library;
 
 #[cfg(feature = "archive")]
-pub fn to_library(action: &Action) -> luddrisa::Action {
-    luddrisa::Action {
-        kind: action.kind,
-        actor: action.actor,
-        reference: action.reference,
-        reqtype: action.reqtype,
-        status: action.status,
-        seller: action.seller,
-        related: action.related,
-        start: action.start,
-        stop: action.stop,
-        flags: action.flags,
-        price: action.price,
-        time: action.time,
-        offset: action.offset,
-        length: action.length,
-    }
-}
-
-#[cfg(feature = "archive")]
 impl Rules for Library {
     fn create(&self, ledger: &mut [u32], [rows, hours, provider, window, base]: [u32; 5]) -> u32 {
         luddrisa::calls::create(ledger, rows, hours, provider, window, base)
@@ -102,26 +84,11 @@ impl Rules for Library {
         actions: &[Action],
         answers: &mut [Answer],
     ) -> u32 {
-        let actions: Vec<_> = actions.iter().map(to_library).collect();
-        let mut places: Vec<_> = answers
-            .iter()
-            .map(|answer| luddrisa::Answer {
-                number: answer.number,
-                reference: answer.reference,
-                before: answer.before,
-                after: answer.after,
-                moved: answer.moved,
-            })
-            .collect();
+        let actions: Vec<_> = actions.iter().map(action_to_library).collect();
+        let mut places: Vec<_> = answers.iter().map(answer_to_library).collect();
         let number = luddrisa::calls::batch(ledger, words, &actions, &mut places);
-        for (answer, place) in answers.iter_mut().zip(places) {
-            *answer = Answer {
-                number: place.number,
-                reference: place.reference,
-                before: place.before,
-                after: place.after,
-                moved: place.moved,
-            };
+        for (answer, place) in answers.iter_mut().zip(&places) {
+            *answer = answer_to_model(place);
         }
         number
     }

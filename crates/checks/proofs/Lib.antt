@@ -1,2 +1,2 @@
-pub mod Tables
 pub mod Profiles
+pub mod Sets

@@ -4,15 +4,13 @@ ghost use mathlib.Core.Bool.{_&&_, _||_, not};
 ghost use Prim.Native.Nat.{_<_, _≤_};
 ghost use lib.ListN.{length};
 ghost use Rattle.words.specs.Lists.{within, zeros};
-ghost use Rattle.rules.specs.Pick.{_isFrom_to_, _among_};
+ghost use Rattle.rules.specs.Pick.{_isFrom_to_};
 ghost use Rattle.rules.specs.Numbers.{headWords, mostMegawatts};
 ghost use Rattle.rules.specs.Layout.{Sized, row, spanHours};
-ghost use Rattle.rules.specs.Moves.{opens, isOpen};
+ghost use Rattle.rules.specs.Moves.{isOpen};
 ghost use Rattle.rules.specs.Checks.{named as rowNamed, comes as profileComes, badProfile, badPrice, badStatus, noReference, notProvider, waitsAt};
-use layout::numbers::ACCEPTED;
-use layout::numbers::COUNTEROFFER;
-use layout::numbers::CR_ACCEPTED;
-use layout::numbers::CR_COUNTEROFFER;
+use crate::moves::OPEN;
+use crate::moves::is_in;
 use layout::numbers::FLAGS;
 use layout::numbers::MOST_MEGAWATTS;
 use layout::numbers::MOST_PRICE;
@@ -20,12 +18,9 @@ use layout::numbers::MOST_STATUS;
 use layout::numbers::PRECONFIRMED;
 use layout::numbers::PROVIDER;
 use layout::numbers::QUEUED;
-use layout::numbers::REBID;
-use layout::numbers::RECEIVED;
 use layout::numbers::START;
 use layout::numbers::STATUS;
 use layout::numbers::STOP;
-use layout::numbers::STUDY;
 use layout::numbers::USED;
 use rules::Action;
 use rules::Reference;
@@ -122,24 +117,12 @@ pub fn waits_at(l: &[u32], rows: usize, hours: usize, n: usize, status: u32) -> 
         && layout::rows::word_at(l, rows, hours, n, STATUS) == status
 }
 
-// 1, 3, 4, 6, 7, 8, 10, 11.
-fn open_status(s: u32) -> bool
-    ensures { λ b. ⌜ b ≡ (s among opens) ⌝ }
-{
-    s == QUEUED
-        || (s == RECEIVED
-            || (s == STUDY
-                || (s == COUNTEROFFER
-                    || (s == CR_COUNTEROFFER
-                        || (s == REBID || (s == ACCEPTED || s == CR_ACCEPTED))))))
-}
-
 pub fn is_open(l: &[u32], rows: usize, hours: usize, n: usize) -> bool
     requires { ⌜ Sized (now l) rows hours ⌝ }
     requires { ⌜ n < rows ⌝ }
     ensures { λ b. ⌜ b ≡ isOpen (row hours (now (l .entry)) n) ⌝ }
 {
-    open_status(layout::rows::word_at(l, rows, hours, n, STATUS))
+    is_in(layout::rows::word_at(l, rows, hours, n, STATUS), OPEN)
 }
 
 // The hours from start up to, not including, stop.

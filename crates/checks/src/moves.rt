@@ -1,97 +1,53 @@
 // The moves between statuses.
 ghost use mathlib.Core.Path.{_≡_};
 ghost use Prim.Native.Nat.{_<_};
+ghost use Rattle.rules.specs.Pick.{_among_};
 ghost use Rattle.rules.specs.Layout.{Sized, row};
 ghost use Rattle.rules.specs.Moves.{allowed, sellerMoves, customerMoves, sellerMay, customerMay};
-ghost use Rattle.checks.specs.Codes.{meaning, tableSays};
+ghost use Rattle.checks.specs.Sets.{members};
+use layout::numbers::ACCEPTED;
+use layout::numbers::ANNULLED;
+use layout::numbers::CONFIRMED;
 use layout::numbers::COORDINATED;
+use layout::numbers::COUNTEROFFER;
+use layout::numbers::CR_ACCEPTED;
+use layout::numbers::CR_COUNTEROFFER;
+use layout::numbers::DECLINED;
+use layout::numbers::DISPLACED;
 use layout::numbers::FLAGS;
+use layout::numbers::INVALID;
 use layout::numbers::MOST_STATUS;
 use layout::numbers::PRECONFIRMED;
+use layout::numbers::QUEUED;
+use layout::numbers::REBID;
+use layout::numbers::RECEIVED;
+use layout::numbers::REFUSED;
 use layout::numbers::RELINQUISH;
 use layout::numbers::REQTYPE;
 use layout::numbers::STATUS;
+use layout::numbers::STUDY;
+use layout::numbers::SUPERSEDED;
+use layout::numbers::WITHDRAWN;
 
-// Statuses, with 0, which is none.
-const STATUSES: usize = MOST_STATUS as usize + 1;
+// Sets of statuses, bit s for status s: 1, 3, 4; 1, 3, 4, 8; 6, 7; 10, 11; the open ones.
+const EARLY: u32 = 1 << QUEUED | 1 << RECEIVED | 1 << STUDY;
 
-// A line for each new status, from 0 on, with a letter for each old one, from 0 on. The move is made: `.` never, `a` always,
-// `p` if the row is preconfirmed, `n` if it is not, `c` if it is coordinated, `d` if it is not, `k` if it is no relinquish record.
-const SELLER: [u8; STATUSES * STATUSES] = *b"\
-    ..................\
-    ..................\
-    .a.aa.............\
-    .a................\
-    .a.a..............\
-    .a.aa...a.........\
-    .d.dd...d.dd......\
-    .c.cc...c.cc......\
-    ..................\
-    .a.aa.aaa.aa......\
-    .d.dd...d.........\
-    .c.cc...c.........\
-    .a.aa...a.........\
-    ..................\
-    ..................\
-    .............k....\
-    .p.pp.ppp.pp.k....\
-    ..................";
+const ASKED: u32 = EARLY | 1 << REBID;
 
-const CUSTOMER: [u8; STATUSES * STATUSES] = *b"\
-    ..................\
-    ..................\
-    ..................\
-    ..................\
-    ..................\
-    ..................\
-    ..................\
-    ..................\
-    ......aa..........\
-    ..................\
-    ..................\
-    ..................\
-    ..................\
-    ......aa..aa......\
-    .n.nn.aan.na......\
-    ..................\
-    ..................\
-    ..................";
+const COUNTERED: u32 = 1 << COUNTEROFFER | 1 << CR_COUNTEROFFER;
 
-// What a letter says of a row.
-fn holds(letter: u8, preconfirmed: bool, coordinated: bool, relinquish: bool) -> bool
-    ensures { λ b. ⌜ b ≡ meaning letter preconfirmed coordinated relinquish ⌝ }
+const TAKEN: u32 = 1 << ACCEPTED | 1 << CR_ACCEPTED;
+
+pub const OPEN: u32 = ASKED | COUNTERED | TAKEN;
+
+// A number over 17 is no status.
+pub fn is_in(status: u32, set: u32) -> bool
+    ensures { λ b. ⌜ b ≡ (status among members set) ⌝ }
 {
-    match letter {
-        b'a' => true,
-        b'p' => preconfirmed,
-        b'n' => !preconfirmed,
-        b'c' => coordinated,
-        b'd' => !coordinated,
-        b'k' => !relinquish,
-        _ => false,
-    }
+    status <= MOST_STATUS && set >> status & 1 == 1
 }
 
-// What a table says of a move. A number over 17 is no status.
-fn says(
-    table: &[u8; STATUSES * STATUSES],
-    new: u32,
-    status: u32,
-    preconfirmed: bool,
-    coordinated: bool,
-    relinquish: bool,
-) -> bool
-    ensures { λ b. ⌜ b ≡ tableSays (now (table .entry)) new status preconfirmed coordinated relinquish ⌝ }
-{
-    if MOST_STATUS < new {
-        return false;
-    }
-    if MOST_STATUS < status {
-        return false;
-    }
-    let at = new as usize * STATUSES + status as usize;
-    holds(table[at], preconfirmed, coordinated, relinquish)
-}
+// The moves to a new status, by the old ones they start from.
 
 pub fn seller_may(
     new: u32,
@@ -102,13 +58,36 @@ pub fn seller_may(
 ) -> bool
     ensures { λ b. ⌜ b ≡ allowed (sellerMoves preconfirmed coordinated relinquish) new status ⌝ }
 {
-    says(&SELLER, new, status, preconfirmed, coordinated, relinquish)
+    match new {
+        RECEIVED => is_in(status, 1 << QUEUED),
+        STUDY => is_in(status, 1 << QUEUED | 1 << RECEIVED),
+        INVALID => is_in(status, EARLY),
+        REFUSED | DECLINED => is_in(status, ASKED),
+        SUPERSEDED => is_in(status, OPEN),
+        COUNTEROFFER => is_in(status, ASKED | TAKEN) & !coordinated,
+        CR_COUNTEROFFER => is_in(status, ASKED | TAKEN) & coordinated,
+        ACCEPTED => is_in(status, ASKED) & !coordinated,
+        CR_ACCEPTED => is_in(status, ASKED) & coordinated,
+        DISPLACED => is_in(status, 1 << CONFIRMED) & !relinquish,
+        ANNULLED => {
+            is_in(status, 1 << CONFIRMED) & !relinquish | is_in(status, OPEN) & preconfirmed
+        }
+        _ => false,
+    }
 }
 
 pub fn customer_may(new: u32, status: u32, preconfirmed: bool) -> bool
     ensures { λ b. ⌜ b ≡ allowed (customerMoves preconfirmed) new status ⌝ }
 {
-    says(&CUSTOMER, new, status, preconfirmed, false, false)
+    match new {
+        REBID => is_in(status, COUNTERED),
+        CONFIRMED => is_in(status, COUNTERED | TAKEN),
+        WITHDRAWN => {
+            is_in(status, OPEN) & !preconfirmed
+                | is_in(status, COUNTERED | 1 << CR_ACCEPTED) & preconfirmed
+        }
+        _ => false,
+    }
 }
 
 // The seller, the customer of row n may move it to a new status.

@@ -6,14 +6,14 @@ use Prim.Native.Nat.{ℕ, zero, suc, _+_, _≤_, _<_}
 use native.Mathlib.Decide.{ℕ-discrete, decLt}
 use native.Mathlib.Omega.{arith}
 use lib.Dec.{eqb}
-use lib.IntN.{ℤ, pos, negsuc, _+ℤ_}
+use lib.IntN.{ℤ, pos, _+ℤ_}
 use Rattle.column.specs.Sum.{gate, choose, sumTo}
-use Rattle.column.specs.Column.{Col, part, either, hit, Off, On}
-use Rattle.column.specs.Step.{Step, Fresh, Run, fresh, next}
+use Rattle.column.specs.Column.{Col, part, either, hit, On}
+use Rattle.column.specs.Step.{Fresh, Run, fresh, next}
 use Rattle.column.specs.Demand.{Live, NotNegative, Whole, inside, gateℤ, sumℤ, Tree, Demand3}
-use Rattle.column.proofs.Sums.{eqb-other, gate-le, gate-swap, sum-ext, sum-le, sum-zero, sum-zero-term, sum-add}
-use Rattle.column.proofs.Fits.{Fit, off, gone, bent, held, fit-sum, fit-w-held, fit-o-off, fit-r-off}
-use Rattle.column.proofs.Flow.{flow, into, all, of, into-zero, into-none, hit-same, hit-other, Inv, Shape}
+use Rattle.column.proofs.Sums.{eqb-other, gate-le, gate-swap, sum-ext, sum-le, sum-zero, sum-add}
+use Rattle.column.proofs.Fits.{Fit, off, gone, bent, held, fit-sum, fit-w-held, fit-r-off}
+use Rattle.column.proofs.Flow.{flow, into, all, of, into-zero, into-none, hit-other, Inv, Shape}
 use Rattle.column.proofs.Kept.{step-kept}
 use Rattle.column.proofs.Shapes.{step-shape, fresh-shape}
 use Rattle.column.proofs.Trees.{tree-sum, inside-closed}
@@ -168,12 +168,6 @@ demand3-of {S} H I = record { whole = whole-of I; tree = λ o l t. tree-of H I o
     go : {t : ℕ} → (t ≡ 1) ⊎ (t ≡ 2) → t ≤ 2
     go (inl e) = omega arith
     go (inr e) = omega arith
-
--- nothing can flow back to a row that is neither CONFIRMED nor DISPLACED: what refers to it draws nothing
-pub draws-nothing : {S : Col} (I : Inv S) (n c : ℕ) → Off (S .st n) → c < S .used → S .ref c ≡ suc n → I .w c ≡ 0
-unfolding flow
-draws-nothing {S} I n c h l e =
-    omega (arith, sum-zero-term (S .used) c (λ i. into all (S .ty i) (S .ref i) n (I .w i)) (fit-o-off (I .fit n) h) l, hit-same (I .w c) e)
 
 -- nothing was counted for the first row that is not in use
 pub unused-out : {S : Col} → Shape S → (I : Inv S) → (k : ℕ) → S .out k (S .used) ≡ pos 0

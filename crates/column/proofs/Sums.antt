@@ -121,9 +121,6 @@ sum-term (suc m) c f l = go (ℕ-discrete c m) (λ k. sum-term m c f k)
     go (yes q) r = omega (arith, ap f q)
     go (no q) r = omega (arith, r (omega arith))
 
-pub sum-zero-term : (m c : ℕ) (f : ℕ → ℕ) → sumTo m f ≡ 0 → c < m → f c ≡ 0
-sum-zero-term m c f e l = omega (arith, sum-term m c f l)
-
 -- only one term counts
 pub sum-single : (m c : ℕ) (f : ℕ → ℕ) → c < m → ((i : ℕ) → i ≢ c → f i ≡ 0) → sumTo m f ≡ f c
 sum-single m c f l e = omega (arith, sum-point m c (λ i. 0) f l e, sum-zero m (λ i. 0) (λ i k. refl))

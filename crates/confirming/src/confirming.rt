@@ -4,27 +4,14 @@ ghost use mathlib.Core.Bool.{true, false};
 ghost use Prim.Native.Nat.{_+_, _<_, _≤_};
 ghost use lib.ListN.{length};
 ghost use Rattle.rules.specs.Numbers.{mostHours, mostFlags, CONFIRMED as confirmedStatus, RELINQUISH as relinquish};
-ghost use Rattle.rules.specs.Layout.{Sized, row, onRow, reqtype, start, flags, setStatus, spanHours};
+ghost use Rattle.rules.specs.Layout.{Sized, row, onRow, reqtype, start, flags, setStatus, rowSize, spanHours};
 ghost use Rattle.rules.specs.Sound.{original};
 ghost use Rattle.rules.specs.Megawatts.{grant, inForce};
 ghost use Rattle.rules.specs.Confirming.{held, emptied, confirmOriginal, confirmDerived, confirmRelinquish, confirm as confirmed, unapproved, unconfirmed, short, sameSpan, partial, confirmNumber};
 ghost use Rattle.rules.proofs.Seen.{Room};
+ghost use Rattle.rules.proofs.SoundFacts.{SoundWords};
 ghost use Rattle.rules.proofs.Over.{overConfirming};
-ghost use Rattle.confirming.specs.Placed.{Placed};
-use crate::giving::covers_at;
-use crate::giving::equals_at;
-use crate::giving::full_at;
-use crate::giving::give_back;
-use crate::giving::take_from;
-use crate::reading::copy_in_force;
-use crate::reading::count_of;
-use crate::reading::is_confirmed;
-use crate::reading::is_original;
-use crate::reading::is_transfer;
-use crate::reading::profile_in_force;
-use crate::reading::related_of;
-use crate::reading::span_at;
-use crate::reading::start_of;
+ghost use Rattle.megawatts.specs.Placed.{Placed};
 use layout::numbers::AVAILABLE_PART;
 use layout::numbers::CONFIRMED;
 use layout::numbers::FLAGS;
@@ -35,6 +22,7 @@ use layout::numbers::MOST_HOURS;
 use layout::numbers::PROFILES;
 use layout::numbers::RELINQUISH;
 use layout::numbers::REQTYPE;
+use layout::numbers::REQUESTED_PART;
 use layout::numbers::ROW_WORDS;
 use layout::numbers::SHORT;
 use layout::numbers::START;
@@ -44,9 +32,25 @@ use layout::numbers::UNAPPROVED;
 use layout::numbers::WRONG_RELATED;
 use layout::rows::clear_hours;
 use layout::rows::flag_raised;
+use layout::rows::has_flag;
+use layout::rows::hours_at;
 use layout::rows::row_at;
 use layout::rows::set_hours;
 use layout::rows::word_at;
+use megawatts::giving::covers_at;
+use megawatts::giving::equals_at;
+use megawatts::giving::full_at;
+use megawatts::giving::give_back;
+use megawatts::giving::take_from;
+use megawatts::reading::copy_in_force;
+use megawatts::reading::count_of;
+use megawatts::reading::is_confirmed;
+use megawatts::reading::is_original;
+use megawatts::reading::is_transfer;
+use megawatts::reading::profile_in_force;
+use megawatts::reading::related_of;
+use megawatts::reading::span_at;
+use megawatts::reading::start_of;
 
 // What is written in the row itself, which is lent.
 
@@ -56,6 +60,23 @@ pub fn grant_row(r: &mut [u32], hours: usize, start: usize, mw: &[u32])
     ensures { λ _. ⌜ now (r .exit) ≡ grant hours start (now (mw .entry)) (now (r .entry)) ⌝ }
 {
     set_hours(r, hours, GRANTED_PART, start, mw);
+    r[FLAGS] = flag_raised(r[FLAGS], GRANTED_GIVEN);
+}
+
+// Granted becomes the profile in force: once given it stands, before that requested is copied.
+pub fn grant_own_row(r: &mut [u32], hours: usize)
+    requires { ⌜ (length (now r) ≡ rowSize hours) × (hours ≤ mostHours) ⌝ }
+    requires { ⌜ SoundWords hours (now r) ⌝ }
+    ensures { λ _. ⌜ now (r .exit) ≡ grant hours (start (now (r .entry))) (inForce hours (now (r .entry))) (now (r .entry)) ⌝ }
+{
+    if has_flag(r[FLAGS], GRANTED_GIVEN) {
+        return;
+    }
+    let start = r[START] as usize;
+    let count = r[STOP] as usize - start;
+    let to = hours_at(hours, GRANTED_PART, start, count);
+    let from = hours_at(hours, REQUESTED_PART, start, count);
+    words::copy_part(r, to, from, count);
     r[FLAGS] = flag_raised(r[FLAGS], GRANTED_GIVEN);
 }
 
@@ -280,7 +301,10 @@ pub fn over_confirming(l: &[u32], rows: usize, hours: usize, n: usize, mw: &[u32
     full_at(l, rows, hours, above, start, mw)
 }
 
-// The same with the row's own profile in force. The writing has a copy of it, since the ledger is written while it is read.
+// A span of a day, with hours to spare.
+const SHORT_SPAN: usize = 32;
+
+// The same with the row's own profile in force. The writing has a copy of it, since the ledger is written while it is read: a short span's in a buffer of its own, which is sooner cleared.
 
 pub fn confirm_own_number(l: &[u32], rows: usize, hours: usize, n: usize, approved: bool) -> u32
     requires { ⌜ Placed (now l) rows hours n ⌝ }
@@ -302,6 +326,39 @@ pub fn over_confirming_own(l: &[u32], rows: usize, hours: usize, n: usize) -> bo
     over_confirming(l, rows, hours, n, &l[from..from + count])
 }
 
+fn confirm_copied(l: &mut [u32], rows: usize, hours: usize, n: usize, own: &mut [u32])
+    requires { ⌜ Placed (now l) rows hours n ⌝ }
+    requires { ⌜ length (now own) ≡ spanHours (row hours (now l) n) ⌝ }
+    requires { ⌜ short hours (now l) n (inForce hours (row hours (now l) n)) ≡ false ⌝ }
+    requires { ⌜ overConfirming hours (now l) n (inForce hours (row hours (now l) n)) ≡ false ⌝ }
+    ensures { λ _. ⌜ now (l .exit) ≡ confirmed hours n (inForce hours (row hours (now (l .entry)) n)) (now (l .entry)) ⌝ }
+{
+    copy_in_force(own, &l[..], rows, hours, n);
+    confirm(l, rows, hours, n, &own[..]);
+}
+
+fn confirm_short(l: &mut [u32], rows: usize, hours: usize, n: usize, count: usize)
+    requires { ⌜ Placed (now l) rows hours n ⌝ }
+    requires { ⌜ (count ≡ spanHours (row hours (now l) n)) × (count ≤ 32) ⌝ }
+    requires { ⌜ short hours (now l) n (inForce hours (row hours (now l) n)) ≡ false ⌝ }
+    requires { ⌜ overConfirming hours (now l) n (inForce hours (row hours (now l) n)) ≡ false ⌝ }
+    ensures { λ _. ⌜ now (l .exit) ≡ confirmed hours n (inForce hours (row hours (now (l .entry)) n)) (now (l .entry)) ⌝ }
+{
+    let mut own = [0u32; SHORT_SPAN];
+    confirm_copied(l, rows, hours, n, &mut own[..count]);
+}
+
+fn confirm_long(l: &mut [u32], rows: usize, hours: usize, n: usize, count: usize)
+    requires { ⌜ Placed (now l) rows hours n ⌝ }
+    requires { ⌜ (count ≡ spanHours (row hours (now l) n)) × (count ≤ mostHours) ⌝ }
+    requires { ⌜ short hours (now l) n (inForce hours (row hours (now l) n)) ≡ false ⌝ }
+    requires { ⌜ overConfirming hours (now l) n (inForce hours (row hours (now l) n)) ≡ false ⌝ }
+    ensures { λ _. ⌜ now (l .exit) ≡ confirmed hours n (inForce hours (row hours (now (l .entry)) n)) (now (l .entry)) ⌝ }
+{
+    let mut own = [0u32; MOST_HOURS as usize];
+    confirm_copied(l, rows, hours, n, &mut own[..count]);
+}
+
 pub fn confirm_own(l: &mut [u32], rows: usize, hours: usize, n: usize)
     requires { ⌜ Placed (now l) rows hours n ⌝ }
     requires { ⌜ short hours (now l) n (inForce hours (row hours (now l) n)) ≡ false ⌝ }
@@ -309,7 +366,9 @@ pub fn confirm_own(l: &mut [u32], rows: usize, hours: usize, n: usize)
     ensures { λ _. ⌜ now (l .exit) ≡ confirmed hours n (inForce hours (row hours (now (l .entry)) n)) (now (l .entry)) ⌝ }
 {
     let count = count_of(&l[..], rows, hours, n);
-    let mut own = [0u32; MOST_HOURS as usize];
-    copy_in_force(&mut own[..count], &l[..], rows, hours, n);
-    confirm(l, rows, hours, n, &own[..count]);
+    if count <= SHORT_SPAN {
+        confirm_short(l, rows, hours, n, count);
+        return;
+    }
+    confirm_long(l, rows, hours, n, count);
 }

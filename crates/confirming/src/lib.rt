@@ -1,5 +1,2 @@
-// What moves megawatts, on the words of a ledger that is lent: confirming, displacing, annulling, reducing.
+// Confirming, on the words of a ledger that is lent: four kinds of action use it.
 pub mod confirming;
-pub mod giving;
-pub mod megawatts;
-pub mod reading;

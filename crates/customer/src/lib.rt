@@ -13,8 +13,8 @@ ghost use Rattle.rules.specs.CustomerStatus.{notCustomer, noCustomerMove, bids,
 ghost use Rattle.rules.proofs.SoundFacts.{SoundWords};
 ghost use Rattle.rules.proofs.Over.{overConfirming};
 ghost use Rattle.layout.specs.SoundAt.{SoundAt};
-ghost use Rattle.confirming.specs.Placed.{Placed};
-ghost use Rattle.customer.specs.Named.{Named, Suits};
+ghost use Rattle.megawatts.specs.Placed.{Placed};
+ghost use Rattle.megawatts.specs.Named.{Named, Suits};
 use checks::checks::bad_if_comes;
 use checks::checks::bad_price;
 use checks::checks::bad_status;
@@ -22,19 +22,14 @@ use checks::checks::comes;
 use checks::checks::named;
 use checks::checks::no_reference;
 use checks::moves::customer_may_row;
-use confirming::confirming::confirm;
+use confirming::confirming::confirm_own;
 use confirming::confirming::confirm_own_number;
 use confirming::confirming::over_confirming_own;
-use confirming::reading::copy_in_force;
-use confirming::reading::count_of;
-use confirming::reading::profile_in_force;
-use confirming::reading::span_at;
 use layout::numbers::APPROVED;
 use layout::numbers::BID;
 use layout::numbers::CONFIRMED;
 use layout::numbers::CUSTOMER;
 use layout::numbers::FLAGS;
-use layout::numbers::MOST_HOURS;
 use layout::numbers::NO_REFERENCE;
 use layout::numbers::OFFER;
 use layout::numbers::OUT_OF_RANGE;
@@ -51,7 +46,11 @@ use layout::numbers::WRONG_PROFILE;
 use layout::rows::has_flag;
 use layout::rows::row_at;
 use layout::rows::set_hours;
+use layout::rows::set_word;
 use layout::rows::word_at;
+use megawatts::reading::count_of;
+use megawatts::reading::profile_in_force;
+use megawatts::reading::span_at;
 use rules::Action;
 
 // 8 and 13 bid; 13 confirms.
@@ -219,7 +218,7 @@ pub fn customer_over(l: &[u32], words: &[u32], rows: usize, hours: usize, a: Act
     false
 }
 
-// What is written in the row itself, which is lent: bid, and requested if a profile comes; or the status.
+// What is written in the row itself, which is lent: bid, and requested if a profile comes.
 
 fn bid_row(r: &mut [u32], words: &[u32], hours: usize, a: Action)
     requires { ⌜ (length (now r) ≡ rowSize hours) × (hours ≤ mostHours) ⌝ }
@@ -237,13 +236,6 @@ fn bid_row(r: &mut [u32], words: &[u32], hours: usize, a: Action)
     set_hours(r, hours, REQUESTED_PART, start, &words[from..from + count]);
 }
 
-fn status_row(r: &mut [u32], status: u32)
-    requires { ⌜ rowWords ≤ length (now r) ⌝ }
-    ensures { λ _. ⌜ now (r .exit) ≡ setStatus status (now (r .entry)) ⌝ }
-{
-    r[STATUS] = status;
-}
-
 // The same in row n of the ledger.
 
 fn bid(l: &mut [u32], words: &[u32], rows: usize, hours: usize, n: usize, a: Action)
@@ -256,29 +248,17 @@ fn bid(l: &mut [u32], words: &[u32], rows: usize, hours: usize, n: usize, a: Act
     bid_row(&mut l[at..at + size], words, hours, a);
 }
 
-fn set_status(l: &mut [u32], rows: usize, hours: usize, n: usize, status: u32)
-    requires { ⌜ Sized (now l) rows hours ⌝ }
-    requires { ⌜ n < rows ⌝ }
-    ensures { λ _. ⌜ now (l .exit) ≡ onRow hours n (setStatus status) (now (l .entry)) ⌝ }
-{
-    let at = row_at(rows, hours, n);
-    let size = ROW_WORDS + PROFILES * hours;
-    status_row(&mut l[at..at + size], status);
-}
-
-// 13 confirms with the profile in force before the action, of which there is a copy.
+// 13 confirms with the profile in force, which the bid leaves as it was.
 fn confirm_bid(l: &mut [u32], words: &[u32], rows: usize, hours: usize, n: usize, a: Action)
     requires { ⌜ Placed (now l) rows hours n ⌝ }
     requires { ⌜ (Suits (now words) a (row hours (now l) n)) × (a .price ≤ mostPrice) ⌝ }
+    requires { ⌜ unfitBid hours (now words) a (row hours (now l) n) ≡ false ⌝ }
     requires { ⌜ short hours (now l) n (inForce hours (row hours (now l) n)) ≡ false ⌝ }
     requires { ⌜ overConfirming hours (now l) n (inForce hours (row hours (now l) n)) ≡ false ⌝ }
     ensures { λ _. ⌜ now (l .exit) ≡ confirmed hours n (inForce hours (row hours (now (l .entry)) n)) (onRow hours n (bidden hours (now (words .entry)) a) (now (l .entry))) ⌝ }
 {
-    let count = count_of(&l[..], rows, hours, n);
-    let mut own = [0u32; MOST_HOURS as usize];
-    copy_in_force(&mut own[..count], &l[..], rows, hours, n);
     bid(l, words, rows, hours, n, a);
-    confirm(l, rows, hours, n, &own[..count]);
+    confirm_own(l, rows, hours, n);
 }
 
 pub fn customer_status(l: &mut [u32], words: &[u32], rows: usize, hours: usize, a: Action)
@@ -294,8 +274,8 @@ pub fn customer_status(l: &mut [u32], words: &[u32], rows: usize, hours: usize, 
     }
     if is_bid(a) {
         bid(l, words, rows, hours, row.0, a);
-        set_status(l, rows, hours, row.0, a.status);
+        set_word(l, rows, hours, row.0, STATUS, a.status);
         return;
     }
-    set_status(l, rows, hours, row.0, a.status);
+    set_word(l, rows, hours, row.0, STATUS, a.status);
 }

@@ -1,4 +1,4 @@
--- What is known of lengths and spans before words are read.
+-- For contracts inside the crate: what is known of lengths and spans before words are read.
 use mathlib.Core.Path.{_≡_}
 use mathlib.Core.List.{List, [], _∷_}
 use Prim.Native.Nat.{ℕ, _≤_, _<_}

@@ -1,4 +1,4 @@
--- Where a row and the hours of a profile lie: what the functions that find them say.
+-- For contracts inside the crates: where a row and the hours of a profile lie, as the functions that find them say.
 use mathlib.Core.Path.{_≡_}
 use Prim.Native.Nat.{ℕ, _+_, _*_, _≤_}
 use Rattle.rules.specs.Numbers.{headWords, mostRows, mostHours}

@@ -1,4 +1,4 @@
--- A sound ledger of R rows and H hours.
+-- For contracts inside the crates: a sound ledger of R rows and H hours.
 use mathlib.Core.Path.{_≡_}
 use mathlib.Core.List.{List}
 use Prim.Native.Nat.{ℕ}

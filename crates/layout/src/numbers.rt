@@ -178,3 +178,5 @@ pub const SHORT: u32 = 14;
 pub const PARTLY_USED: u32 = 15;
 
 pub const TOO_EARLY: u32 = 16;
+
+pub const FEWER_ANSWERS: u32 = 17;

@@ -2,10 +2,10 @@
 ghost use mathlib.Core.Path.{_≡_};
 ghost use mathlib.Core.Bool.{true};
 ghost use Prim.Native.Nat.{_+_, _<_, _≤_};
-ghost use lib.ListN.{length, getD};
+ghost use lib.ListN.{length, getD, set};
 ghost use Rattle.words.specs.Lists.{covered, equal, roomy, mostWord};
 ghost use Rattle.rules.specs.Numbers.{rowWords, profiles, mostRows, mostHours, mostMegawatts, mostFlags, offerGiven};
-ghost use Rattle.rules.specs.Layout.{Sized, row, hoursOf, setHours, addHours, lessHours, clearHours, hasFlag, flagged, rowSize};
+ghost use Rattle.rules.specs.Layout.{Sized, row, onRow, hoursOf, setHours, addHours, lessHours, clearHours, hasFlag, flagged, rowSize};
 ghost use Rattle.rules.proofs.Seen.{Room};
 ghost use Rattle.layout.specs.Places.{RowAt, HoursAt};
 use crate::numbers::HEAD_WORDS;
@@ -28,6 +28,16 @@ pub fn word_at(l: &[u32], rows: usize, hours: usize, n: usize, k: usize) -> u32
     ensures { λ r. ⌜ r ≡ getD (row hours (now (l .entry)) n) k 0 ⌝ }
 {
     l[row_at(rows, hours, n) + k]
+}
+
+// Word k of row n becomes v.
+pub fn set_word(l: &mut [u32], rows: usize, hours: usize, n: usize, k: usize, v: u32)
+    requires { ⌜ Sized (now l) rows hours ⌝ }
+    requires { ⌜ (n < rows) × (k < rowWords) ⌝ }
+    ensures { λ _. ⌜ now (l .exit) ≡ onRow hours n (λ r. set r k v) (now (l .entry)) ⌝ }
+{
+    let at = row_at(rows, hours, n);
+    l[at + k] = v;
 }
 
 // Where hours of profile p start in a row.

@@ -25,7 +25,7 @@ use Rattle.rules.specs.Approve.{approveNumber, approveAfter}
 use Rattle.rules.specs.Reduce.{reduceNumber, reduceAfter}
 use Rattle.rules.specs.Lapse.{lapseNumber, lapseAfter}
 use Rattle.rules.specs.Clock.{clockNumber, clockAfter}
-use Rattle.rules.specs.Act.{byKind, kindNumber, kindAfter, commonNumber, number, refusal, subject, statusBefore, movedBetween, megawattHours, acceptance, answered, Outcome, refused, accepted, step}
+use Rattle.rules.specs.Act.{byKind, kindNumber, kindAfter, commonNumber, number, refusal, subject, statusBefore, movedBetween, movedBy, megawattHours, acceptance, answered, Outcome, refused, accepted, step}
 use Rattle.rules.specs.declared.Action.{Action}
 use Rattle.rules.specs.declared.Answer.{Answer}
 use Rattle.rules.proofs.Picks.{takes, keeps}
@@ -36,10 +36,13 @@ use Rattle.rules.proofs.Passed.{gives-none, or-else-none, submit-passed, seller
 use Rattle.rules.proofs.Submitted.{submit-opens}
 use Rattle.rules.proofs.Soundness.{number-passed, sound-next, head-next}
 use Rattle.layout.specs.SoundAt.{SoundAt}
-use Rattle.confirming.proofs.Laws.{own-words, own-length, span-length}
+use Rattle.layout.proofs.SoundAt.{sized-at, head-fits}
+use Rattle.checks.proofs.Profiles.{profile-lent}
+use Rattle.megawatts.proofs.Laws.{own-words, own-length, span-length}
+use Rattle.megawatts.proofs.Named.{placed-at}
 use Rattle.submission.proofs.Laws.{submit-over}
-use Rattle.provider.proofs.Laws.{sized-at, placed-at, head-fits, profile-lent, over-approve, over-reduce, over-clock}
-use Rattle.ledger.specs.Moving.{movedWith, movedBy, SmallProfile, Passes}
+use Rattle.provider.proofs.Laws.{over-approve, over-reduce, over-clock}
+use Rattle.ledger.specs.Moving.{SmallProfile, Passes}
 
 -- ---- the checks that the kind's own function asks for
 module _ (H : ℕ) (l w : List ℕ) (a : Action) where
@@ -192,25 +195,41 @@ lent-total {w} {a} p e = e ∙ ap total (profile-lent w a (p .fits))
 
 -- ---- MW-hours moved, by the tests
 module _ (H old new held : ℕ) (next : List ℕ) where
-  pub confirmed-now : {v : ℕ} → old ≢ CONFIRMED → new ≡ CONFIRMED → v ≡ total (granted H next) → v ≡ movedWith H old new held next
-  unfolding movedWith
+  pub confirmed-now : {v : ℕ} → old ≢ CONFIRMED → new ≡ CONFIRMED → v ≡ total (granted H next) → v ≡ movedBetween H old new held next
+  unfolding movedBetween
   confirmed-now a b h = simp (ne-eqb old CONFIRMED a, eq-eqb new CONFIRMED b) h
 
-  pub not-confirmed : old ≢ CONFIRMED → new ≢ CONFIRMED → 0 ≡ movedWith H old new held next
-  unfolding movedWith
+  pub not-confirmed : old ≢ CONFIRMED → new ≢ CONFIRMED → 0 ≡ movedBetween H old new held next
+  unfolding movedBetween
   not-confirmed a b = simp (ne-eqb old CONFIRMED a, ne-eqb new CONFIRMED b)
 
-  pub annulled-now : {v : ℕ} → old ≡ CONFIRMED → new ≡ ANNULLED → v ≡ total (granted H next) → v ≡ movedWith H old new held next
-  unfolding movedWith
+  pub annulled-now : {v : ℕ} → old ≡ CONFIRMED → new ≡ ANNULLED → v ≡ total (granted H next) → v ≡ movedBetween H old new held next
+  unfolding movedBetween
   annulled-now a b h = simp (eq-eqb old CONFIRMED a, eq-eqb new ANNULLED b) h
 
-  pub displaced-now : old ≡ CONFIRMED → new ≢ ANNULLED → new ≡ DISPLACED → held ≡ movedWith H old new held next
-  unfolding movedWith
+  pub displaced-now : old ≡ CONFIRMED → new ≢ ANNULLED → new ≡ DISPLACED → held ≡ movedBetween H old new held next
+  unfolding movedBetween
   displaced-now a b d = simp (eq-eqb old CONFIRMED a, ne-eqb new ANNULLED b, eq-eqb new DISPLACED d)
 
-  pub stayed : old ≡ CONFIRMED → new ≢ ANNULLED → new ≢ DISPLACED → 0 ≡ movedWith H old new held next
-  unfolding movedWith
+  pub stayed : old ≡ CONFIRMED → new ≢ ANNULLED → new ≢ DISPLACED → 0 ≡ movedBetween H old new held next
+  unfolding movedBetween
   stayed a b d = simp (eq-eqb old CONFIRMED a, ne-eqb new ANNULLED b, ne-eqb new DISPLACED d)
+
+  -- what was available is counted of a row that was CONFIRMED alone
+  pub held-counts : movedBetween H old new (pick (eqb old CONFIRMED) held 0) next ≡ movedBetween H old new held next
+  unfolding movedBetween
+  held-counts = go (eqb old CONFIRMED)
+    where
+      by : Bool → ℕ → ℕ
+      by was held =
+          pick (not was && eqb new CONFIRMED) (total (granted H next)) (
+          pick (was && eqb new ANNULLED) (total (granted H next)) (
+          pick (was && eqb new DISPLACED) held
+          0))
+
+      go : (was : Bool) → by was (pick was held 0) ≡ by was held
+      go true = refl
+      go false = refl
 
 pub ruleset moving = (confirmed-now, not-confirmed, annulled-now, displaced-now, stayed)
 
@@ -293,29 +312,29 @@ module _ (H : ℕ) (l w : List ℕ) (a : Action) (next : List ℕ) where
       let old : ℕ = pick (eqb k 1) 0 (status (namedRow H l a)) in
       pick (eqb k 7) (refusal 0)
       (answerWith r old (status (row H next (rowOf r)))
-      (pick (eqb k 5) (total (profile w a)) (movedBetween H old (status (row H next (rowOf r))) (row H l (rowOf r)) (row H next (rowOf r)))))
+      (pick (eqb k 5) (total (profile w a)) (movedBetween H old (status (row H next (rowOf r))) (total (available H (row H l (rowOf r)))) (row H next (rowOf r)))))
 
   -- of a submission
-  pub submission-answer : a .kind ≡ 1 → {n new moved : ℕ} → n ≡ used l → new ≡ status (row H next n) → moved ≡ movedWith H 0 new 0 (row H next n)
+  pub submission-answer : a .kind ≡ 1 → {n new moved : ℕ} → n ≡ used l → new ≡ status (row H next n) → moved ≡ movedBetween H 0 new 0 (row H next n)
       → answerWith (used l + 1) 0 new moved ≡ answered H l w a next
-  unfolding answered acceptance subject statusBefore megawattHours movedBetween movedWith
+  unfolding answered acceptance subject statusBefore megawattHours movedBy movedBetween
   submission-answer e {n} {new} {moved} en ea em =
       let last : used l ≡ used l + 1 - 1 = omega arith in
       let m : n ≡ used l + 1 - 1 = en ∙ last in
       let f : new ≡ status (row H next (used l + 1 - 1)) = ea ∙ ap (λ (i : ℕ). status (row H next i)) m in
-      ap (λ (x : ℕ). answerWith (used l + 1) 0 new x) (em ∙ ap (λ (i : ℕ). movedWith H 0 new 0 (row H next i)) m)
-      ∙ ap (λ (x : ℕ). answerWith (used l + 1) 0 x (movedWith H 0 x 0 (row H next (used l + 1 - 1)))) f
+      ap (λ (x : ℕ). answerWith (used l + 1) 0 new x) (em ∙ ap (λ (i : ℕ). movedBetween H 0 new 0 (row H next i)) m)
+      ∙ ap (λ (x : ℕ). answerWith (used l + 1) 0 x (movedBetween H 0 x 0 (row H next (used l + 1 - 1)))) f
       ∙ ap answerBy (sym e)
 
   -- of an action on the row that it names
-  pub named-answer : a .kind ≢ 1 → a .kind ≢ 7 → {n old new held moved : ℕ} → n ≡ named a → old ≡ status (row H l n) → held ≡ total (available H (row H l n))
+  pub named-answer : a .kind ≢ 1 → a .kind ≢ 7 → {n old new held moved : ℕ} → n ≡ named a → old ≡ status (row H l n) → held ≡ pick (eqb old CONFIRMED) (total (available H (row H l n))) 0
       → new ≡ status (row H next n) → moved ≡ movedBy H w a old new held (row H next n)
       → answerWith (a .reference) old new moved ≡ answered H l w a next
-  unfolding answered acceptance subject statusBefore megawattHours movedBetween movedWith movedBy
+  unfolding answered acceptance subject statusBefore megawattHours movedBy
   named-answer no1 no7 {n} {old} {new} {held} {moved} en eo eh ea em =
-      ap (λ (x : ℕ). answerWith (a .reference) old new x) em
-      ∙ ap (λ (x : ℕ). answerWith (a .reference) x new (movedBy H w a x new held (row H next n))) eo
-      ∙ ap (λ (x : ℕ). answerWith (a .reference) (status (row H l n)) new (movedBy H w a (status (row H l n)) new x (row H next n))) eh
+      ap (λ (x : ℕ). answerWith (a .reference) old new x)
+      (em ∙ ap (λ (x : ℕ). movedBy H w a old new x (row H next n)) eh ∙ ap (λ (x : ℕ). pick (eqb (a .kind) 5) (total (profile w a)) x) (held-counts H old new (total (available H (row H l n))) (row H next n)))
+      ∙ ap (λ (x : ℕ). answerWith (a .reference) x new (movedBy H w a x new (total (available H (row H l n))) (row H next n))) eo
       ∙ ap (λ (x : ℕ). answerWith (a .reference) (status (row H l n)) x (movedBy H w a (status (row H l n)) x (total (available H (row H l n))) (row H next n))) ea
       ∙ ap (λ (i : ℕ). answerWith (a .reference) (status (row H l i)) (status (row H next i)) (movedBy H w a (status (row H l i)) (status (row H next i)) (total (available H (row H l i))) (row H next i))) en
       ∙ ap by (sym (ne-eqb (a .kind) 1 no1))
@@ -326,7 +345,7 @@ module _ (H : ℕ) (l w : List ℕ) (a : Action) (next : List ℕ) where
           let r : ℕ = pick b (used l + 1) (a .reference) in
           let old : ℕ = pick b 0 (status (namedRow H l a)) in
           answerWith r old (status (row H next (rowOf r)))
-          (pick (eqb (a .kind) 5) (total (profile w a)) (movedBetween H old (status (row H next (rowOf r))) (row H l (rowOf r)) (row H next (rowOf r))))
+          (pick (eqb (a .kind) 5) (total (profile w a)) (movedBetween H old (status (row H next (rowOf r))) (total (available H (row H l (rowOf r)))) (row H next (rowOf r))))
 
 -- ---- a step
 module _ (b : Bool) (l w : List ℕ) (a : Action) {r : ℕ} (is : r ≡ number b l w a) where

@@ -3,20 +3,21 @@ ghost use mathlib.Core.Path.{_≡_};
 ghost use mathlib.Core.Logic.{_≢_};
 ghost use mathlib.Core.Bool.{true};
 ghost use Prim.Native.Nat.{_<_};
+ghost use lib.Dec.{eqb};
 ghost use Rattle.words.specs.Lists.{total};
-ghost use Rattle.rules.specs.Numbers.{profiles};
-ghost use Rattle.rules.specs.Layout.{hours, used, row, span};
+ghost use Rattle.rules.specs.Pick.{pick};
+ghost use Rattle.rules.specs.Numbers.{profiles, CONFIRMED as confirmed};
+ghost use Rattle.rules.specs.Layout.{hours, used, row, span, available};
 ghost use Rattle.rules.specs.Sound.{sound as isSound};
 ghost use Rattle.rules.specs.Checks.{profile};
-ghost use Rattle.rules.specs.Act.{kindAfter, number as numberOf, refusal, answered};
+ghost use Rattle.rules.specs.Act.{kindAfter, number as numberOf, refusal, movedBetween, movedBy, answered};
 ghost use Rattle.layout.specs.SoundAt.{SoundAt};
-ghost use Rattle.ledger.specs.Moving.{movedWith, movedBy, SmallProfile, Passes};
+ghost use Rattle.ledger.specs.Moving.{SmallProfile, Passes};
 use crate::applying::apply;
 use crate::numbering::CLOCK;
 use crate::numbering::REDUCE;
 use crate::numbering::SUBMIT;
 use checks::checks::named;
-use confirming::reading::hours_total;
 use layout::numbers::ANNULLED;
 use layout::numbers::AVAILABLE_PART;
 use layout::numbers::CONFIRMED;
@@ -27,6 +28,7 @@ use layout::numbers::ROWS;
 use layout::numbers::STATUS;
 use layout::numbers::USED;
 use layout::rows::word_at;
+use megawatts::reading::hours_total;
 use rules::Action;
 use rules::Answer;
 
@@ -51,11 +53,23 @@ fn span_total(l: &[u32], rows: usize, hours: usize, n: usize, p: usize) -> u32
     hours_total(l, rows, hours, n, p) as u32
 }
 
+// What row n has available before an action, if it is CONFIRMED: no other status has it counted.
+fn held_at(l: &[u32], rows: usize, hours: usize, n: usize, status: u32) -> u32
+    requires { ⌜ SoundAt (now l) rows hours ⌝ }
+    requires { ⌜ n < used (now l) ⌝ }
+    ensures { λ r. ⌜ r ≡ pick (eqb status confirmed) (total (available hours (row hours (now (l .entry)) n))) 0 ⌝ }
+{
+    if status != CONFIRMED {
+        return 0;
+    }
+    span_total(l, rows, hours, n, AVAILABLE_PART)
+}
+
 // MW-hours moved as row n went from a status to another; held is what was available before.
 fn moved(l: &[u32], rows: usize, hours: usize, n: usize, old: u32, new: u32, held: u32) -> u32
     requires { ⌜ SoundAt (now l) rows hours ⌝ }
     requires { ⌜ n < used (now l) ⌝ }
-    ensures { λ r. ⌜ r ≡ movedWith hours old new held (row hours (now (l .entry)) n) ⌝ }
+    ensures { λ r. ⌜ r ≡ movedBetween hours old new held (row hours (now (l .entry)) n) ⌝ }
 {
     if old != CONFIRMED {
         if new == CONFIRMED {
@@ -115,13 +129,13 @@ fn accept_submission(l: &mut [u32], words: &[u32], rows: usize, hours: usize, a:
     let count = l[USED];
     let n = count as usize;
     apply(l, words, rows, hours, a);
-    let after = word_at(&l[..], rows, hours, n, STATUS);
-    let amount = moved(&l[..], rows, hours, n, 0, after, 0);
+    let status = word_at(&l[..], rows, hours, n, STATUS);
+    let amount = moved(&l[..], rows, hours, n, 0, status, 0);
     Answer {
         number: 0,
         reference: count + 1,
         before: 0,
-        after,
+        after: status,
         moved: amount,
     }
 }
@@ -136,7 +150,7 @@ fn accept_named(l: &mut [u32], words: &[u32], rows: usize, hours: usize, a: Acti
     let row = named(a);
     let n = row.0;
     let before = word_at(&l[..], rows, hours, n, STATUS);
-    let held = span_total(&l[..], rows, hours, n, AVAILABLE_PART);
+    let held = held_at(&l[..], rows, hours, n, before);
     apply(l, words, rows, hours, a);
     let after = word_at(&l[..], rows, hours, n, STATUS);
     let amount = moved_by(&l[..], words, rows, hours, n, a, before, after, held);

@@ -2,9 +2,8 @@
 ghost use mathlib.Core.Path.{_≡_};
 ghost use Rattle.rules.specs.Sound.{sound as isSound};
 ghost use Rattle.rules.specs.Megawatts.{carriesOver};
-ghost use Rattle.rules.specs.Act.{commonNumber, kindNumber, kindAfter, number as numberOf};
+ghost use Rattle.rules.specs.Act.{commonNumber, kindNumber, kindAfter, soundNumber, number as numberOf};
 ghost use Rattle.layout.specs.SoundAt.{SoundAt};
-ghost use Rattle.ledger.specs.Moving.{soundNumber};
 use checks::checks::is_from;
 use customer::customer_number;
 use customer::customer_over;

@@ -2,4 +2,3 @@ pub mod Clauses
 pub mod Fold
 pub mod Lending
 pub mod Handing
-pub mod Together

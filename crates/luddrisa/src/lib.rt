@@ -6,11 +6,9 @@ ghost use Rattle.rules.specs.Calls.{togetherNumber, togetherRun, togetherAnswer
 ghost use Rattle.rules.specs.ReadOut.{shown, charge as chargeOf};
 ghost use Rattle.stamp.specs.Stamp.{reading, writeNumber, written};
 ghost use Rattle.luddrisa.specs.HandedOut.{handedOut};
+use layout::numbers::FEWER_ANSWERS;
 use rules::Action;
 use rules::Answer;
-
-// Refused: fewer answers than actions.
-const FEWER_ANSWERS: u32 = 17;
 
 // A fresh ledger: 0, or 1 with nothing written.
 #[no_mangle]

@@ -2,18 +2,16 @@
 use mathlib.Core.Path.{_≡_, refl, sym, ap, subst, _∙_}
 use mathlib.Core.Logic.{_≢_, _⊎_, ⊎-elim}
 use mathlib.Core.Bool.{Bool, true, false}
-use mathlib.Core.List.{List, [], _∷_}
-use Prim.Native.Nat.{ℕ, _+_, _-_, _≤_, _<_}
+use mathlib.Core.List.{List}
+use Prim.Native.Nat.{ℕ, _≤_, _<_}
 use native.Mathlib.Omega.{arith}
 use lib.Dec.{lit<}
-use lib.ListN.{length, take, drop, set}
-use borrow.Author.Needs.{needs}
-use borrow.Author.Tests.{not-false, le-leb, ne-eqb}
+use lib.ListN.{length, set}
+use borrow.Author.Tests.{le-leb, ne-eqb}
 use Rattle.words.specs.Lists.{splice, covered}
-use Rattle.words.proofs.Laws.{set-splice, lent}
 use Rattle.rules.specs.Pick.{pick, _gives_else_}
-use Rattle.rules.specs.Numbers.{headWords, rowWords, requestedPart, grantedPart, availablePart, grantedGiven, approved, ACCEPTED, CR-ACCEPTED, RETRACTED, RELINQUISH}
-use Rattle.rules.specs.Layout.{rows, hours, used, rowBase, row, onRow, reqtype, start, flags, flagged, has, raise, setStatus, spanHours, hoursOf, span, requested, granted, available, issued, Sized}
+use Rattle.rules.specs.Numbers.{requestedPart, grantedPart, availablePart, grantedGiven, approved, ACCEPTED, CR-ACCEPTED, RETRACTED, RELINQUISH}
+use Rattle.rules.specs.Layout.{rows, hours, used, rowBase, row, onRow, reqtype, start, flags, flagged, has, raise, setStatus, spanHours, hoursOf, span, requested, granted, available, issued}
 use Rattle.rules.specs.Megawatts.{inForce, carriesOver}
 use Rattle.rules.specs.Confirming.{confirm, short}
 use Rattle.rules.specs.Checks.{named, namedRow, profile, noReference, notProvider, waitsAt}
@@ -23,10 +21,9 @@ use Rattle.rules.specs.Lapse.{lapseAfter}
 use Rattle.rules.specs.Clock.{clockAfter}
 use Rattle.rules.specs.declared.Action.{Action}
 use Rattle.rules.proofs.Picks.{hit, skip, skip-call, and-stops}
-use Rattle.rules.proofs.Rows.{row-least, row-fits, row-length, on-splice}
+use Rattle.rules.proofs.Rows.{row-length}
 use Rattle.rules.proofs.Spans.{span-set, raise-approved}
-use Rattle.rules.proofs.SoundFacts.{SoundLedger, range}
-use Rattle.rules.proofs.SoundFacts as F
+use Rattle.rules.proofs.SoundFacts.{SoundLedger}
 use Rattle.rules.proofs.Formed.{Formed, formed}
 use Rattle.rules.proofs.Placed as P
 use Rattle.rules.proofs.Turned.{Turned}
@@ -37,14 +34,10 @@ use Rattle.rules.proofs.Before as B
 use Rattle.rules.proofs.Over.{overConfirming}
 use Rattle.rules.proofs.Over as O
 use Rattle.layout.specs.SoundAt.{SoundAt}
-use Rattle.confirming.specs.Placed.{Placed}
-use Rattle.confirming.proofs.Laws.{sized}
+use Rattle.megawatts.specs.Placed.{Placed}
+use Rattle.megawatts.proofs.Laws.{sized}
 
 -- ---- a reference that was issued
-pub issued-range : (l : List ℕ) (a : Action) → noReference l a ≡ false → (1 ≤ a .reference) × (a .reference ≤ used l)
-unfolding noReference issued
-issued-range l a e = range 1 (a .reference) (used l) (not-false _ e)
-
 pub issued-known : (l : List ℕ) (a : Action) → (1 ≤ a .reference) × (a .reference ≤ used l) → noReference l a ≡ false
 unfolding noReference issued
 issued-known l a e = simp (le-leb 1 (a .reference) (e .0), le-leb (a .reference) (used l) (e .1))
@@ -58,40 +51,11 @@ then-rest {r} {q} l a v m p e k f h = skip-call r (noReference l a) v 4 _ p e (s
 pub at-row : {b : Bool} {n m : ℕ} (H : ℕ) (l : List ℕ) (f : List ℕ → Bool) → n ≡ m → b ≡ f (row H l n) → b ≡ f (row H l m)
 at-row H l f e h = h ∙ ap (λ (k : ℕ). f (row H l k)) e
 
--- ---- a sound ledger, and its rows in use
-module _ {l : List ℕ} {R H : ℕ} (s : SoundAt l R H) where
-  pub sized-at : Sized l R H
-  sized-at = subst (λ (x : ℕ). Sized l x H) (sym (s .rows)) (subst (λ (x : ℕ). Sized l (rows l) x) (sym (s .hours)) (F.sized (s .sound)))
+-- the row of an issued reference is in use
+pub named-used : {l : List ℕ} {R H : ℕ} → SoundAt l R H → (a : Action) → (1 ≤ a .reference) × (a .reference ≤ used l) → named a < used l
+named-used s a e = omega (arith, e)
 
-  pub head-fits : headWords ≤ length l
-  head-fits = omega (arith, sized-at .long, row-least H R)
-
-  pub placed-at : {n : ℕ} → n < used l → Placed l R H n
-  placed-at lt = record { formed = formed (s .sound); rows = s .rows; hours = s .hours; row = lt }
-
-  pub named-used : (a : Action) → (1 ≤ a .reference) × (a .reference ≤ used l) → named a < used l
-  named-used a e = omega (arith, e)
-
-pub head-placed : {l : List ℕ} {R H n : ℕ} → Placed l R H n → headWords ≤ length l
-head-placed {l} {R} {H} p = omega (arith, sized p .long, row-least H R)
-
--- for what a function asks of the checks on the head
-pub ruleset sound-at = (needs, head-fits)
-
--- a word of row n is stored: by its place in the ledger
-pub stored : {l : List ℕ} {R H n at : ℕ} → Sized l R H → n < R → at ≡ rowBase H n → (k v : ℕ) → k < rowWords → set l (at + k) v ≡ onRow H n (λ r. set r k v) l
-unfolding onRow
-stored {l} {R} {H} {n} {at} z lt e k v klt =
-    ap (λ (x : ℕ). set l (x + k) v) e
-    ∙ set-splice l (rowBase H n + k) v (omega (arith, row-fits z lt))
-    ∙ sym (on-splice z lt k (v ∷ []) (omega arith))
-    ∙ ap (λ (r : List ℕ). splice l (rowBase H n) r) (sym (set-splice (row H l n) k v (omega (arith, row-length z lt))))
-
--- ---- the action's profile, which is lent, against available of a row
-pub profile-lent : (w : List ℕ) (a : Action) → a .offset + a .length ≤ length w → take (a .offset + a .length - a .offset) (drop (a .offset) w) ≡ profile w a
-unfolding profile
-profile-lent w a fits = lent w (a .offset) (a .offset) (a .length) refl fits
-
+-- ---- a profile against available of a row
 pub covers-own : (H : ℕ) (r mw : List ℕ) {s : ℕ} → s ≡ start r → length mw ≡ spanHours r → covered mw (hoursOf H availablePart s (length mw) r) ≡ covered mw (available H r)
 unfolding span
 covers-own H r mw {s} es e =

@@ -4,15 +4,13 @@ ghost use Rattle.rules.specs.Numbers.{approved};
 ghost use Rattle.rules.specs.Layout.{row, onRow, raise};
 ghost use Rattle.rules.specs.Approve.{notApprovable, approveNumber, approveAfter};
 ghost use Rattle.layout.specs.SoundAt.{SoundAt};
-ghost use Rattle.confirming.specs.Placed.{Placed};
+ghost use Rattle.megawatts.specs.Placed.{Placed};
 use crate::named::is_approved;
 use crate::named::row_named;
-use crate::named::set_word;
 use checks::checks::is_open;
 use checks::checks::waits_at;
 use confirming::confirming::confirm_own;
 use confirming::confirming::confirm_own_number;
-use confirming::reading::is_transfer;
 use layout::numbers::ACCEPTED;
 use layout::numbers::APPROVED;
 use layout::numbers::FLAGS;
@@ -21,7 +19,9 @@ use layout::numbers::REQTYPE;
 use layout::numbers::WRONG_MOVE;
 use layout::numbers::WRONG_PARTY;
 use layout::rows::flag_raised;
+use layout::rows::set_word;
 use layout::rows::word_at;
+use megawatts::reading::is_transfer;
 use rules::Action;
 
 // Row n is not of type 6 or 7, not open, or approved already.

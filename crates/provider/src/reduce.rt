@@ -5,11 +5,8 @@ ghost use Rattle.rules.specs.Layout.{row, spanHours};
 ghost use Rattle.rules.specs.Checks.{badProfile};
 ghost use Rattle.rules.specs.Reduce.{notReducible, reducesTooMuch, reduceNumber, reduceAfter};
 ghost use Rattle.layout.specs.SoundAt.{SoundAt};
-ghost use Rattle.confirming.specs.Placed.{Placed};
+ghost use Rattle.megawatts.specs.Placed.{Placed};
 use crate::named::row_named;
-use confirming::giving::covers_at;
-use confirming::reading::is_confirmed;
-use confirming::reading::start_of;
 use layout::numbers::NO_REFERENCE;
 use layout::numbers::RELINQUISH;
 use layout::numbers::REQTYPE;
@@ -18,6 +15,9 @@ use layout::numbers::WRONG_MOVE;
 use layout::numbers::WRONG_PARTY;
 use layout::numbers::WRONG_PROFILE;
 use layout::rows::word_at;
+use megawatts::giving::covers_at;
+use megawatts::reading::is_confirmed;
+use megawatts::reading::start_of;
 use rules::Action;
 
 // Row n is not CONFIRMED, or of type 8.
@@ -88,5 +88,5 @@ pub fn reduce(l: &mut [u32], words: &[u32], rows: usize, hours: usize, a: Action
     let n = row_named(&l[..], rows, hours, a);
     let from = a.offset as usize;
     let count = a.length as usize;
-    confirming::megawatts::reduce(l, rows, hours, n, &words[from..from + count]);
+    megawatts::moving::reduce(l, rows, hours, n, &words[from..from + count]);
 }

@@ -20,8 +20,8 @@ use Rattle.rules.specs.ReadOut.{shown, cents, chargeNumber, charge}
 use Rattle.rules.proofs.Rows.{row-least}
 use Rattle.rules.proofs.SoundFacts.{sound-facts}
 use Rattle.rules.proofs.Formed.{formed}
-use Rattle.confirming.specs.Placed.{Placed, HoursIn}
-use Rattle.confirming.proofs.Laws.{own-words, own-hours, sized, own-length, span-lent, span-length}
+use Rattle.megawatts.specs.Placed.{Placed, HoursIn}
+use Rattle.megawatts.proofs.Laws.{own-words, own-hours, sized, own-length, span-lent, span-length}
 
 -- of two lent parts the one in force
 pub force-lent : {l : List ℕ} {R H n q g count : ℕ} {given : Bool} → Placed l R H n

@@ -10,12 +10,8 @@ ghost use Rattle.rules.specs.Layout.{issued, row, bid, granted};
 ghost use Rattle.rules.specs.Sound.{sound};
 ghost use Rattle.rules.specs.Megawatts.{inForce};
 ghost use Rattle.rules.specs.ReadOut.{shown, cents as centsOf, chargeNumber, charge as chargeOf};
-ghost use Rattle.confirming.specs.Placed.{Placed};
+ghost use Rattle.megawatts.specs.Placed.{Placed};
 use checks::checks::is_from;
-use confirming::reading::count_of;
-use confirming::reading::hours_total;
-use confirming::reading::is_confirmed;
-use confirming::reading::span_at;
 use layout::numbers::BID;
 use layout::numbers::FLAGS;
 use layout::numbers::GRANTED_GIVEN;
@@ -29,6 +25,10 @@ use layout::numbers::USED;
 use layout::numbers::WRONG_MOVE;
 use layout::rows::has_flag;
 use layout::rows::word_at;
+use megawatts::reading::count_of;
+use megawatts::reading::hours_total;
+use megawatts::reading::is_confirmed;
+use megawatts::reading::span_at;
 use rules::Reference;
 
 // A number, and where it is 0 the charge in cents.

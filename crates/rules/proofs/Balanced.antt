@@ -6,11 +6,11 @@ use mathlib.Core.List.{List, []}
 use Prim.Native.Nat.{ℕ, zero, suc, _+_, _-_, _≤_, _<_}
 use native.Mathlib.Decide.{ℕ-discrete}
 use native.Mathlib.Omega.{arith}
-use borrow.Author.Tests.{eq-eqb, ne-eqb, eqb-true, leb-true}
-use lib.Dec.{eqb, leb, lit<}
+use borrow.Author.Tests.{eq-eqb, ne-eqb, eqb-true}
+use lib.Dec.{eqb, lit<}
 use lib.IntN.{ℤ, pos, negsuc, _+ℤ_}
 use lib.ListN.{length, getD}
-use Rattle.words.proofs.Laws.{and-left, and-right, lt-or-le, part-length, part-at}
+use Rattle.words.proofs.Laws.{lt-or-le, part-length, part-at}
 use Rattle.column.specs.Column.{Col, either}
 use Rattle.column.specs.Demand as Column
 use Rattle.column.specs.Demand.{Live, up, within, inside, gateℤ, sumℤ}
@@ -21,6 +21,7 @@ use Rattle.rules.specs.Layout.{hours, used, rowSize, row, reqtype, statu
 use Rattle.rules.specs.Sound.{original}
 use Rattle.rules.specs.Tally.{Tally, grantedIn, resoldSum, redirectedSum, transferredSum, relinquishedSum, reducedSum}
 use Rattle.rules.specs.Balance.{rowIn, wordIn, NotNegative, live, descendsWithin, descends, sumTo, holding, SameEntry, Whole, Tree, Balanced}
+use Rattle.rules.proofs.Types.{original-range}
 use Rattle.rules.proofs.Rows.{row-length}
 use Rattle.rules.proofs.Seen.{hour-in, standing-in, standing-off}
 use Rattle.rules.proofs.SoundFacts.{SoundWords, sized}
@@ -99,15 +100,11 @@ live-is s e = go (ℕ-discrete s 13) (ℕ-discrete s 15)
         absurd (omega arith)
 
 original-is : (t : ℕ) → original t ≡ true → (t ≡ 1) ⊎ (t ≡ 2)
-unfolding original
-original-is t e =
-    let low : 1 ≤ t = leb-true 1 t (and-left (leb 1 t) (leb t 2) e) in
-    let high : t ≤ 2 = leb-true t 2 (and-right (leb 1 t) (leb t 2) e) in
-    go (ℕ-discrete t 1)
+original-is t e = go (ℕ-discrete t 1)
   where
     go : Dec (t ≡ 1) → (t ≡ 1) ⊎ (t ≡ 2)
     go (yes q) = inl q
-    go (no n) = inr (omega (arith, leb-true 1 t (and-left (leb 1 t) (leb t 2) e), leb-true t 2 (and-right (leb 1 t) (leb t 2) e)))
+    go (no n) = inr (omega (arith, original-range t e))
 
 -- ---- a row's own profile, standing at an hour
 pub stands-own : {H : ℕ} (r : List ℕ) (p h : ℕ) → p < profiles → h < H → length r ≡ rowSize H → start r < stop r → stop r ≤ H

@@ -1,14 +1,16 @@
--- Actions one after another where soundness was tested once, before the first: they are the run of the rules.
+-- Actions one after another, and handed over together, where soundness was tested once, before the first: they are the run of the rules.
 use mathlib.Core.Path.{_≡_, refl, sym, ap, _∙_, subst}
 use mathlib.Core.Bool.{Bool, true, false}
-use mathlib.Core.List.{List, [], _∷_}
+use mathlib.Core.List.{List, [], _∷_, _++_}
 use Prim.Native.Nat.{ℕ, suc}
-use lib.ListN.{length}
+use lib.Dec.{ltb}
+use lib.ListN.{length, drop}
 use Rattle.rules.specs.Sound.{sound}
 use Rattle.rules.specs.Act.{commonNumber, number, refused, step, outcome}
-use Rattle.rules.specs.Calls.{doing, runActions, answers}
+use Rattle.rules.specs.Calls.{Run, doing, runActions, answers, tooFew, togetherRun, togetherNumber, togetherAnswers}
 use Rattle.rules.specs.declared.Action.{Action}
 use Rattle.rules.specs.declared.Answer.{Answer}
+use Rattle.rules.proofs.Picks.{hit, skip}
 use Rattle.rules.proofs.Soundness.{sound-step}
 
 -- the ledger after actions in turn, and the answers to them, each action told that the ledger is sound, or that it is not
@@ -48,3 +50,31 @@ run-answers b l w [] e = refl
 run-answers b l w (a ∷ xs) e =
     ap (λ (t : Bool). step t l w a .answer ∷ answers (runActions (step t l w a .ledger) w xs .done)) (sym e)
     ∙ ap (λ (rs : List Answer). step b l w a .answer ∷ rs) (run-answers b (step b l w a .ledger) w xs (tested-after b l w a e))
+
+-- ---- handed over together
+-- with fewer answer places than actions: nothing is done
+pub too-few-number : (xs : List Action) (places : ℕ) → ltb places (length xs) ≡ true → togetherNumber xs places ≡ 17
+unfolding togetherNumber tooFew
+too-few-number xs places short = sym (hit _ _ _ short)
+
+pub too-few-ledger : (l w : List ℕ) (xs : List Action) (places : ℕ) → ltb places (length xs) ≡ true → togetherRun l w xs places .ledger ≡ l
+unfolding togetherRun tooFew
+too-few-ledger l w xs places short = ap (λ (r : Run). r .ledger) (sym (hit _ _ _ short))
+
+pub too-few-answers : (l w : List ℕ) (xs : List Action) (out : List Answer) → ltb (length out) (length xs) ≡ true → togetherAnswers l w xs out ≡ out
+unfolding togetherAnswers tooFew
+too-few-answers l w xs out short = sym (hit _ _ _ short)
+
+-- with places enough: all are done, and the spare places are as they were
+pub together-number : (xs : List Action) (places : ℕ) → ltb places (length xs) ≡ false → togetherNumber xs places ≡ 0
+unfolding togetherNumber tooFew
+together-number xs places enough = sym (skip _ _ _ _ enough refl)
+
+pub together-ledger : (b : Bool) (l w : List ℕ) (xs : List Action) (places : ℕ) → b ≡ sound l → ltb places (length xs) ≡ false → togetherRun l w xs places .ledger ≡ ledgersBy b l w xs
+unfolding togetherRun tooFew
+together-ledger b l w xs places e enough = ap (λ (r : Run). r .ledger) (sym (skip _ _ _ _ enough refl)) ∙ run-ledger b l w xs e
+
+pub together-answers : (b : Bool) (l w : List ℕ) (xs : List Action) (out : List Answer) → b ≡ sound l → ltb (length out) (length xs) ≡ false
+    → togetherAnswers l w xs out ≡ repliesBy b l w xs ++ drop (length xs) out
+unfolding togetherAnswers tooFew
+together-answers b l w xs out e enough = sym (skip _ _ _ _ enough (ap (λ (rs : List Answer). rs ++ drop (length xs) out) (sym (run-answers b l w xs e))))

@@ -1,6 +1,5 @@
 -- Confirming row n after a write in it that moves no megawatts: its checks read nothing that the write changed.
 use mathlib.Core.Path.{_≡_, refl, sym, ap, subst, _∙_}
-use mathlib.Core.Logic.{⊎-elim}
 use mathlib.Core.Bool.{Bool, true, false, _&&_, not}
 use mathlib.Core.List.{List}
 use Prim.Native.Nat.{ℕ, _≤_, _<_}
@@ -8,18 +7,18 @@ use native.Mathlib.Omega.{arith}
 use lib.Dec.{eqb, lit<}
 use lib.ListN.{length}
 use borrow.Author.Tests.{eqb-true, not-true}
-use Rattle.words.specs.Lists.{within, covered, equal}
-use Rattle.words.proofs.Laws.{lt-or-le}
-use Rattle.rules.specs.Numbers.{availablePart, mostMegawatts, FULL-TRANSFER, RELINQUISH}
+use Rattle.words.specs.Lists.{within, covered}
+use Rattle.rules.specs.Numbers.{availablePart, mostMegawatts, RELINQUISH}
 use Rattle.rules.specs.Layout.{rows, hours, used, row, onRow, reqtype, start, stop, relatedRow, spanHours, hoursOf, setStatus}
-use Rattle.rules.specs.Sound.{original, transfer}
+use Rattle.rules.specs.Sound.{original}
 use Rattle.rules.specs.Moves.{isConfirmed}
 use Rattle.rules.specs.Megawatts.{carriesOver}
-use Rattle.rules.specs.Confirming.{confirm, unapproved, unconfirmed, drawnFrom, short, sameSpan, partial, confirmNumber}
+use Rattle.rules.specs.Confirming.{confirm, unconfirmed, drawnFrom, short}
 use Rattle.rules.proofs.Turned.{Turned}
 use Rattle.rules.proofs.SoundFacts.{SoundLedger}
 use Rattle.rules.proofs.Formed.{formed}
-use Rattle.rules.proofs.Placed.{Placed, placed, is-original}
+use Rattle.rules.proofs.Placed.{Placed, placed}
+use Rattle.rules.proofs.Types.{derived-least}
 use Rattle.rules.proofs.Unmoved.{Unmoved, unmoved-status, unmoved-turned, types-stay, starts-stay, stops-stay, related-stays}
 use Rattle.rules.proofs.Over.{full, overConfirming, carried, confirming, unmoved-carried, writing}
 
@@ -30,16 +29,6 @@ gate b b′ x x′ e h = ap (λ (t : Bool). t && x′) e ∙ go b h
     go : (b : Bool) → (b ≡ true → x′ ≡ x) → (b && x′) ≡ (b && x)
     go true h = h refl
     go false h = refl
-
-not-original : (t : ℕ) → 1 ≤ t → not (original t) ≡ true → 3 ≤ t
-not-original t low e =
-    ⊎-elim
-    (λ u.
-    let o : original t ≡ true = is-original t low (omega (arith, u)) in
-    let z : _≡_ {A = ℕ} 0 1 = cc (o, not-true (original t) e) in
-    omega (arith, z))
-    (λ u. u)
-    (lt-or-le t 3)
 
 module _ {R H : ℕ} {l : List ℕ} {n : ℕ} (o : Placed R H l n) (f : List ℕ → List ℕ) (q : Unmoved H (row H l n) (f (row H l n))) where
   written : Turned R H l (onRow H n f l) n (f (row H l n))
@@ -68,15 +57,11 @@ module _ {R H : ℕ} {l : List ℕ} {n : ℕ} (o : Placed R H l n) (f : List ℕ
       ∙ ap (λ (m : ℕ). row H (onRow H n f l) m) (same-above (relatedRow H l n))
       ∙ written .other (relatedRow H l (relatedRow H l n)) (λ z. omega (arith, o .lower (omega (arith, e)), o .lowest e, z))
 
-  pub unapproved-stays : (b : Bool) → unapproved H (onRow H n f l) n b ≡ unapproved H l n b
-  unfolding unapproved
-  unapproved-stays b = ap (λ (t : ℕ). transfer t && not b) same-type
-
   pub unconfirmed-stays : unconfirmed H (onRow H n f l) n ≡ unconfirmed H l n
   unfolding unconfirmed
   unconfirmed-stays =
       gate _ _ _ _ (ap (λ (t : ℕ). not (original t)) same-type)
-      (λ e. ap (λ (x : List ℕ). not (isConfirmed x)) (above-stays (not-original _ (o .type-least) e)))
+      (λ e. ap (λ (x : List ℕ). not (isConfirmed x)) (above-stays (derived-least _ (o .type-least) (not-true _ e))))
 
   drawn-stays : 3 ≤ reqtype (row H l n) → (count : ℕ) → drawnFrom H (onRow H n f l) n count ≡ drawnFrom H l n count
   unfolding drawnFrom
@@ -88,28 +73,7 @@ module _ {R H : ℕ} {l : List ℕ} {n : ℕ} (o : Placed R H l n) (f : List ℕ
   unfolding short
   short-stays mw =
       gate _ _ _ _ (ap (λ (t : ℕ). not (original t)) same-type)
-      (λ e. ap (λ (x : List ℕ). not (covered mw x)) (drawn-stays (not-original _ (o .type-least) e) (length mw)))
-
-  span-stays : 3 ≤ reqtype (row H l n) → sameSpan (row H (onRow H n f l) n) (row H (onRow H n f l) (relatedRow H (onRow H n f l) n)) ≡ sameSpan (row H l n) (row H l (relatedRow H l n))
-  unfolding sameSpan
-  span-stays t =
-      ap (λ (x : List ℕ). eqb (start (row H (onRow H n f l) n)) (start x) && eqb (stop (row H (onRow H n f l) n)) (stop x)) (above-stays t)
-      ∙ ap (λ (s : ℕ). eqb s (start (row H l (relatedRow H l n))) && eqb (stop (row H (onRow H n f l) n)) (stop (row H l (relatedRow H l n)))) same-start
-      ∙ ap (λ (s : ℕ). eqb (start (row H l n)) (start (row H l (relatedRow H l n))) && eqb s (stop (row H l (relatedRow H l n)))) same-stop
-
-  pub partial-stays : (mw : List ℕ) → partial H (onRow H n f l) n mw ≡ partial H l n mw
-  unfolding partial
-  partial-stays mw =
-      gate _ _ _ _ (ap (λ (t : ℕ). eqb t FULL-TRANSFER) same-type)
-      (λ e.
-      let t : 3 ≤ reqtype (row H l n) = omega (arith, eqb-true (reqtype (row H l n)) FULL-TRANSFER e) in
-      ap (λ (b : Bool). not (b && equal mw (drawnFrom H (onRow H n f l) n (length mw)))) (span-stays t)
-      ∙ ap (λ (x : List ℕ). not (sameSpan (row H l n) (row H l (relatedRow H l n)) && equal mw x)) (drawn-stays t (length mw)))
-
-  -- 13, 9 and 14, the numbers of confirming
-  pub number-stays : (mw : List ℕ) (b : Bool) → confirmNumber H (onRow H n f l) n mw b ≡ confirmNumber H l n mw b
-  unfolding confirmNumber
-  number-stays mw b = simp (unapproved-stays b, unconfirmed-stays, short-stays mw, partial-stays mw)
+      (λ e. ap (λ (x : List ℕ). not (covered mw x)) (drawn-stays (derived-least _ (o .type-least) (not-true _ e)) (length mw)))
 
   -- and the last check of it
   pub over-confirming-stays : (mw : List ℕ) → overConfirming H (onRow H n f l) n mw ≡ overConfirming H l n mw

@@ -11,7 +11,7 @@ use lib.ListN.{length, getD, drop, length-take, List·getD-eq-default}
 use lib.Seq.{getD-take, getD-drop}
 use borrow.Author.Tests.{le-leb, not-false}
 use Rattle.words.specs.Lists.{splice, within, roomy}
-use Rattle.words.proofs.Laws.{lt-or-le, and-left, and-right, all-at, all-below, within-at, within-all, roomy-at, part-length, part-at, splice-length, splice-in, splice-after}
+use Rattle.words.proofs.Laws.{lt-or-le, and-left, and-right, all-at, all-below, within-at, within-all, roomy-at, part-at, splice-length, splice-in, splice-after}
 use Rattle.rules.specs.Pick.{pick}
 use Rattle.rules.specs.Numbers.{profiles, requestedPart, grantedPart, availablePart, displacedPart, mostMegawatts, DISPLACED, ANNULLED}
 use Rattle.rules.specs.Layout.{used, row, rowSize, start, stop, hourAt, hoursOf, spanHours, span, available, displaced, standing}
@@ -22,6 +22,7 @@ use Rattle.rules.specs.Checks.{profile}
 use Rattle.rules.specs.Submit.{newWords, newRow}
 use Rattle.rules.specs.declared.Action.{Action}
 use Rattle.rules.proofs.Seen.{Room, Seen, at, at-own, at-other, hour-in, seen-self, seen-set, seen-add, seen-clear, standing-in, standing-off, standing-before}
+use Rattle.rules.proofs.Spans.{span-length as long}
 use Rattle.rules.proofs.Unmoved.{Unmoved, unmoved-hours}
 use Rattle.rules.proofs.Writes.{words, megawatts, returns-profile, seen-taken, seen-given, seen-held, seen-emptied}
 
@@ -89,13 +90,6 @@ module _ (H : ℕ) (l : List ℕ) where
   pub carries-false : carriesOver H l ≡ false → AllBounded H l
   unfolding carriesOver
   carries-false e m lt = bounded-row H (row H l m) (all-at _ (used l) m (not-false _ e) lt)
-
-  pub carries-true : (m : ℕ) → m < used l → (p h : ℕ) → availablePart ≤ p → p < profiles → start (row H l m) ≤ h → h < stop (row H l m) → mostMegawatts < getD (row H l m) (hourAt H p h) 0 → carriesOver H l ≡ true
-  carries-true m lt p h low high least below over = go (carriesOver H l) refl
-    where
-      go : (t : Bool) → carriesOver H l ≡ t → carriesOver H l ≡ true
-      go true e = e
-      go false e = absurd (omega (arith, over, carries-false e m lt .most p h low high least below))
 
 -- ---- rows of the ledger's size whose span lies in its hours
 pub record Ranged (H : ℕ) (r : List ℕ) : Type 0 where
@@ -268,8 +262,7 @@ module _ {H : ℕ} {r : List ℕ} (g : Ranged H r) where
 
   -- the row's own available
   pub span-length : (p : ℕ) → p < profiles → length (span H p r) ≡ spanHours r
-  unfolding span
-  span-length p plt = part-length r (hourAt H p (start r)) (spanHours r) (omega (arith, g .long, hour-in H plt, g .starts, g .stops))
+  span-length p plt = long (record { long = g .long; starts = omega (arith, g .starts); stops = g .stops }) p plt
 
   all-available : Room H (start r) (available H r) r
   all-available = room (start r) (available H r) (omega (arith, span-length availablePart (lit< tt), g .starts, g .stops))

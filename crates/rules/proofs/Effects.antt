@@ -1,29 +1,29 @@
 -- What each effect leaves of a formed ledger.
 use mathlib.Core.Path.{_≡_, refl, sym, ap, _∙_, subst}
 use mathlib.Core.Logic.{_≢_, _⊎_, ⊎-elim, inl, inr}
-use mathlib.Core.Bool.{Bool, true, false, _&&_, _||_, not}
+use mathlib.Core.Bool.{Bool, true, false, not}
 use mathlib.Core.List.{List}
 use Prim.Native.Nat.{ℕ, _+_, _-_, _≤_, _<_}
 use native.Mathlib.Decide.{ℕ-discrete}
 use native.Mathlib.Omega.{arith}
-use borrow.Author.Tests.{eqb-true, leb-true, le-leb}
-use lib.Dec.{eqb, leb, lit<}
+use borrow.Author.Tests.{eqb-true}
+use lib.Dec.{eqb, lit<}
 use lib.ListN.{length, getD, length-set}
 use lib.Seq.{getD-set-same, getD-set-other}
 use Rattle.words.specs.Lists.{splice, zip2}
-use Rattle.words.proofs.Laws.{lt-or-le, zip-length, part-length, splice-length, splice-before, and-right}
+use Rattle.words.proofs.Laws.{lt-or-le, zip-length, part-length, splice-length, splice-before}
 use Rattle.rules.specs.Pick.{pick}
-use Rattle.rules.specs.Numbers.{headWords, rowWords, profiles, requestedPart, grantedPart, availablePart, displacedPart, offerGiven, RELINQUISH}
-use Rattle.rules.specs.Layout.{rows, hours, used, setUsed, rowSize, row, onRow, reqtype, start, stop, relatedRow, hourAt, hoursOf, spanHours, span, granted, available, raise, setBid, setOffer, setHours, addHours, lessHours, Sized}
+use Rattle.rules.specs.Numbers.{headWords, rowWords, profiles, requestedPart, grantedPart, availablePart, displacedPart, RELINQUISH}
+use Rattle.rules.specs.Layout.{rows, hours, used, setUsed, rowSize, row, onRow, reqtype, start, stop, relatedRow, hourAt, hoursOf, spanHours, span, granted, available, setHours, addHours, lessHours, Sized}
 use Rattle.rules.specs.Sound.{original}
 use Rattle.rules.specs.Moves.{isConfirmed}
 use Rattle.rules.specs.Megawatts.{grant, takeFrom, returnsTo, giveBack, displacedRow, displace, annulledRow, annul, reduce}
 use Rattle.rules.specs.Confirming.{held, emptied, confirmOriginal, confirmDerived, confirmRelinquish, confirm}
-use Rattle.rules.specs.Checks.{profile, comes}
-use Rattle.rules.specs.SellerStatus.{accepts, grantedAfter, offered}
-use Rattle.rules.specs.CustomerStatus.{bidden}
+use Rattle.rules.specs.Checks.{profile}
 use Rattle.rules.specs.Submit.{newWords, newRow, submitAfter}
 use Rattle.rules.specs.declared.Action.{Action}
+use Rattle.rules.proofs.Types.{original-range, derived-least}
+use Rattle.rules.proofs.Spans.{Spanned, span-length}
 use Rattle.rules.proofs.Rows.{row-length, row-least, on-sized, on-own, on-other, on-head, head-row}
 use Rattle.rules.proofs.Seen.{Room, at, at-own, at-other, hour-in, seen-self, seen-hours, set-length, less-length, add-length, clear-length}
 use Rattle.rules.proofs.Writes.{megawatts, returns-profile}
@@ -213,10 +213,6 @@ module _ {H s : ℕ} {mw r : List ℕ} (m : Room H s mw r) where
   unfolding takeFrom
   taken-length = less-length m {p = availablePart} (lit< tt)
 
-  pub given-length : length (giveBack H s mw r) ≡ rowSize H
-  unfolding giveBack
-  given-length = add-length m (returns-profile r)
-
 module _ {H s : ℕ} {mw r : List ℕ} (m : Room H s mw r) where
   pub held-length : length (held H s mw r) ≡ rowSize H
   unfolding held
@@ -236,46 +232,12 @@ when-length : (H : ℕ) (b : Bool) (q r : List ℕ) → length q ≡ rowSize H �
 when-length H true q r e f = e
 when-length H false q r e f = f
 
-pub offered-length : {H : ℕ} (expires : ℕ) (w : List ℕ) (a : Action) {r : List ℕ} → Room H (start r) (grantedAfter H w a r) r → length (offered H expires w a r) ≡ rowSize H
-unfolding offered
-offered-length {H} expires w a {r} m =
-    simp length-set
-    (when-length H (comes a || accepts a) (grant H (start r) (grantedAfter H w a r) q) q
-    (grant-length (record { long = e; fits = m .fits })) e)
-  where
-    q : List ℕ
-    q = raise offerGiven (setOffer (a .price) r)
-
-    e : length q ≡ rowSize H
-    e = simp length-set (m .long)
-
-pub bidden-length : {H : ℕ} (w : List ℕ) (a : Action) {r : List ℕ} → Room H (start r) (profile w a) r → length (bidden H w a r) ≡ rowSize H
-unfolding bidden
-bidden-length {H} w a {r} m =
-    when-length H (comes a) (setHours H requestedPart (start r) (profile w a) (setBid (a .price) r)) (setBid (a .price) r)
-    (set-length (record { long = e; fits = m .fits }) {p = requestedPart} (lit< tt)) e
-  where
-    e : length (setBid (a .price) r) ≡ rowSize H
-    e = simp length-set (m .long)
-
 -- a row whose span lies in the hours
-pub record Spanned (H : ℕ) (r : List ℕ) : Type 0 where
-  pub long : length r ≡ rowSize H
-  pub starts : start r ≤ stop r
-  pub stops : stop r ≤ H
-
 module _ {H : ℕ} {r : List ℕ} (s : Spanned H r) where
-  pub span-room : {p : ℕ} → p < profiles → hourAt H p (start r) + spanHours r ≤ length r
-  span-room plt = omega (arith, hour-in H plt)
-
-  pub span-length : {p : ℕ} → p < profiles → length (span H p r) ≡ spanHours r
-  unfolding span
-  span-length {p} plt = part-length r (hourAt H p (start r)) (spanHours r) (span-room plt)
-
   pub displaced-length : length (displacedRow H r) ≡ rowSize H
   unfolding displacedRow
   displaced-length =
-      let e : length (available H r) ≡ spanHours r = span-length {p = availablePart} (lit< tt) in
+      let e : length (available H r) ≡ spanHours r = span-length s availablePart (lit< tt) in
       simp length-set
       (clear-length H (start r) (spanHours r) (addHours H displacedPart (start r) (available H r) r)
       (add-length (record { long = s .long; fits = omega arith }) {p = displacedPart} (lit< tt)) (omega arith) {p = availablePart} (lit< tt))
@@ -285,20 +247,6 @@ module _ {H : ℕ} {r : List ℕ} (s : Spanned H r) where
   annulled-length = simp length-set (clear-length H (start r) (spanHours r) r (s .long) (omega arith) {p = availablePart} (lit< tt))
 
 -- ---- rows of a formed ledger
-pub derived-least : (t : ℕ) → original t ≡ false → 1 ≤ t → 3 ≤ t
-unfolding original
-derived-least t e least = ⊎-elim (λ u. absurd (clash _ e (yes-original (le-leb 1 t least) (le-leb t 2 (omega arith))))) (λ u. u) (lt-or-le t 3)
-  where
-    clash : (b : Bool) → b ≡ false → b ≡ true → ⊥
-    clash b p q = let z : _≡_ {A = Bool} false true = sym p ∙ q in let y : _≡_ {A = ℕ} 0 1 = cc in omega arith
-
-    yes-original : leb 1 t ≡ true → leb t 2 ≡ true → (leb 1 t && leb t 2) ≡ true
-    yes-original p q = simp (p, q)
-
-pub original-most : (t : ℕ) → original t ≡ true → t ≤ 2
-unfolding original
-original-most t e = leb-true t 2 (and-right (leb 1 t) (leb t 2) e)
-
 module _ {l : List ℕ} (F : Formed l) {n : ℕ} (lt : n < used l) where
   pub used-row : n < rows l
   used-row = omega (arith, F .head .used)
@@ -396,10 +344,10 @@ module _ {l : List ℕ} (F : Formed l) {n : ℕ} (lt : n < used l) where
     where
       by : (b c : Bool) → original (reqtype (row (hours l) l n)) ≡ b → eqb (reqtype (row (hours l) l n)) RELINQUISH ≡ c
           → Leaves (rows l) (hours l) l (pick b (confirmOriginal (hours l) n mw l) (pick c (confirmRelinquish (hours l) n mw l) (confirmDerived (hours l) n mw l))) n (pick c (emptied (hours l) (start (row (hours l) l n)) mw (row (hours l) l n)) (held (hours l) (start (row (hours l) l n)) mw (row (hours l) l n)))
-      by true true p q = absurd (omega (arith, original-most (reqtype (row (hours l) l n)) p, eqb-true (reqtype (row (hours l) l n)) RELINQUISH q))
+      by true true p q = absurd (omega (arith, original-range (reqtype (row (hours l) l n)) p, eqb-true (reqtype (row (hours l) l n)) RELINQUISH q))
       by true false p q = original-leaves F lt mw e
       by false true p q = relinquish-leaves F lt (eqb-true (reqtype (row (hours l) l n)) RELINQUISH q) mw e
-      by false false p q = derived-leaves F lt mw e (derived-least (reqtype (row (hours l) l n)) p (F .words n lt .type-least))
+      by false false p q = derived-leaves F lt mw e (derived-least (reqtype (row (hours l) l n)) (F .words n lt .type-least) p)
 
   pub annul-leaves : Leaves (rows l) (hours l) l (annul (hours l) n l) n (annulledRow (hours l) (row (hours l) l n))
   unfolding annul
@@ -409,8 +357,8 @@ module _ {l : List ℕ} (F : Formed l) {n : ℕ} (lt : n < used l) where
           → Leaves (rows l) (hours l) l (onRow (hours l) n (annulledRow (hours l)) (pick (not b) (onRow (hours l) (relatedRow (hours l) l n) (giveBack (hours l) (start (row (hours l) l n)) (granted (hours l) (row (hours l) l n))) l) l)) n (annulledRow (hours l) (row (hours l) l n))
       by true p = own-leaves F lt (annulledRow (hours l)) (annulled-length (row-spanned F lt))
       by false p =
-          let t = derived-least (reqtype (row (hours l) l n)) p (F .words n lt .type-least) in
-          let own = inside-own F lt (granted (hours l) (row (hours l) l n)) (span-length (row-spanned F lt) {p = grantedPart} (lit< tt)) in
+          let t = derived-least (reqtype (row (hours l) l n)) (F .words n lt .type-least) p in
+          let own = inside-own F lt (granted (hours l) (row (hours l) l n)) (span-length (row-spanned F lt) grantedPart (lit< tt)) in
           leaves-on
           (spared-on (spared-self (formed-sized F)) (relatedRow (hours l) l n) (used-row F (above-used F lt t)) (λ q. omega (arith, q, above-before F lt t))
           (giveBack (hours l) (start (row (hours l) l n)) (granted (hours l) (row (hours l) l n))) (kin-given (inside-above F lt t own)))

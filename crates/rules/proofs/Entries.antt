@@ -3,18 +3,16 @@ use mathlib.Core.Path.{_≡_, refl, sym, ap, subst, _∙_}
 use mathlib.Core.Logic.{_≢_, _⊎_, ⊎-elim, inl, inr}
 use mathlib.Core.Bool.{Bool, true, false, _||_, and-false, or-true}
 use mathlib.Core.List.{List, [], _∷_}
-use Prim.Native.Nat.{ℕ, suc, _+_, _/_, _%_, _≤_, _<_}
-use native.Mathlib.Decide.{ℕ-discrete}
+use Prim.Native.Nat.{ℕ, _+_, _/_, _%_, _≤_, _<_}
 use native.Mathlib.Omega.{arith}
 use borrow.Author.Tests.{eqb-true, eqb-false, eq-eqb, ne-eqb, not-false}
 use lib.Dec.{T, eqb, lit<}
 use lib.ListN.{length, getD}
-use lib.Seq.{ext-getD}
 use Rattle.words.specs.Lists.{zeros, equal, every, splice}
-use Rattle.words.proofs.Laws.{lt-or-le, equal-at, splice-length, splice-in, splice-after, and-left, and-right}
+use Rattle.words.proofs.Laws.{lt-or-le, equal-lists, splice-length, splice-in, splice-after, and-left, and-right}
 use Rattle.rules.specs.Pick.{pick, _among_}
 use Rattle.rules.specs.Numbers.{requestedPart, grantedPart, approved, grantedGiven, ACCEPTED, CONFIRMED, DISPLACED, ANNULLED, QUEUED}
-use Rattle.rules.specs.Layout.{used, row, rowSize, reqtype, status, related, start, stop, flags, spanHours, hourAt, requested, granted, hasFlag, has, raise, setStatus, offer, standing}
+use Rattle.rules.specs.Layout.{row, rowSize, reqtype, status, related, start, stop, flags, spanHours, hourAt, requested, granted, hasFlag, has, raise, setStatus, offer, standing}
 use Rattle.rules.specs.Moves.{sellerMay}
 use Rattle.rules.specs.Megawatts.{inForce, takeFrom, displacedRow, annulledRow}
 use Rattle.rules.specs.Confirming.{held, emptied}
@@ -22,16 +20,17 @@ use Rattle.rules.specs.Checks.{profile, comes}
 use Rattle.rules.specs.Submit.{newWords, newRow}
 use Rattle.rules.specs.SellerStatus.{counters, accepts, offers, grantedAfter, goesOn, offered}
 use Rattle.rules.specs.CustomerStatus.{bids, requestedAfter, unfitBid, bidden}
-use Rattle.rules.specs.Tally.{Entry, grantedIn, Tally, opened, requestedBy, grantedBy, copied, changed, counts, feed}
+use Rattle.rules.specs.Tally.{Entry, grantedIn, opened, requestedBy, grantedBy, copied, changed}
 use Rattle.rules.specs.declared.Action.{Action}
 use Rattle.rules.specs.declared.Answer.{Answer}
 use Rattle.rules.proofs.Seen.{standing-before, standing-after}
-use Rattle.rules.proofs.Leaves.{Kin, Leaves}
+use Rattle.rules.proofs.Leaves.{Kin}
 use Rattle.rules.proofs.SoundFacts.{SoundWords}
 use Rattle.rules.proofs.Good.{Agrees}
 use Rattle.rules.proofs.Passed.{ProfilePassed, profile-length, SubmitPassed, is-one, last-one, or-none, or-some, seller-move}
-use Rattle.rules.proofs.TallyLaws.{Like, fed-own, fed-other, opened-own, opened-other}
+use Rattle.rules.proofs.TallyLaws.{Like}
 use Rattle.rules.proofs.Spans.{Spanned, span-length, span-kin, hour-standing}
+use Rattle.rules.proofs.Forces.{granted-comes, granted-stays, accepted-grants}
 use Rattle.rules.proofs.Shown.{Shown, shown-aside, shown-status, shown-approved, shown-requested, shown-held, shown-emptied, shown-taken, shown-displaced, shown-annulled, shown-bidden, shown-rebidden, shown-offered, shown-granted}
 
 -- statuses that settle what is granted; and the others
@@ -276,10 +275,7 @@ module _ {H : ℕ} {r : List ℕ} {e : Entry} (A : Agrees H r e) (m : Spanned H 
       forced (shown-approved (shown A m)) s z f (requested-kept a w e (inl (λ y. omega arith)) ∙ A .same-requested) (A .asked) in-force (λ y. omega arith)
 
 -- ---- the customer's bids
-equal-lists : (x y : List ℕ) → length x ≡ length y → equal x y ≡ true → x ≡ y
-equal-lists x y n e = ext-getD 0 x y n (λ k lt. equal-at x y e k lt)
-
-bid-equal : (H : ℕ) (w : List ℕ) (a : Action) (r : List ℕ) → unfitBid H w a r ≡ false → equal (requestedAfter H w a r) (inForce H r) ≡ true
+pub bid-equal : (H : ℕ) (w : List ℕ) (a : Action) (r : List ℕ) → unfitBid H w a r ≡ false → equal (requestedAfter H w a r) (inForce H r) ≡ true
 unfolding unfitBid
 bid-equal H w a r e = and-right (eqb (a .price) (offer r)) _ (not-false _ e)
 
@@ -323,14 +319,6 @@ module _ {H : ℕ} {r : List ℕ} {e : Entry} (A : Agrees H r e) (m : Spanned H 
           forced A m a w answer (shown-bidden (shown A m) w a c) s z f (requested-kept a w e (inr (inr c)) ∙ A .same-requested) (A .asked) (in-force A m a w answer) (λ y. omega arith)
 
 -- ---- the seller's offers
-after-comes : (H : ℕ) (w : List ℕ) (a : Action) (r : List ℕ) → comes a ≡ true → grantedAfter H w a r ≡ profile w a
-unfolding grantedAfter
-after-comes H w a r c = ap (λ (b : Bool). pick b (profile w a) (inForce H r)) c
-
-after-none : (H : ℕ) (w : List ℕ) (a : Action) (r : List ℕ) → comes a ≡ false → grantedAfter H w a r ≡ inForce H r
-unfolding grantedAfter
-after-none H w a r c = ap (λ (b : Bool). pick b (profile w a) (inForce H r)) c
-
 pub goes-on : (a : Action) (r : List ℕ) → goesOn a r ≡ true → a .status ≡ ACCEPTED
 unfolding goesOn
 goes-on a r f = eqb-true _ _ (and-left (eqb (a .status) ACCEPTED) _ f)
@@ -341,8 +329,8 @@ module _ {H : ℕ} {r : List ℕ} {e : Entry} (A : Agrees H r e) (m : Spanned H 
   after-length = go (comes a) refl
     where
       go : (b : Bool) → comes a ≡ b → length (grantedAfter H w a r) ≡ spanHours r
-      go true c = ap length (after-comes H w a r c) ∙ profile-length (came c)
-      go false c = ap length (after-none H w a r c) ∙ force-length A m
+      go true c = ap length (granted-comes H w a r c) ∙ profile-length (came c)
+      go false c = ap length (granted-stays H w a r c) ∙ force-length A m
 
   kept : requestedBy a w e ≡ e .requested
   kept = requested-kept a w e (inl (λ z. omega arith))
@@ -353,39 +341,38 @@ module _ {H : ℕ} {r : List ℕ} {e : Entry} (A : Agrees H r e) (m : Spanned H 
     where
       go : (b : Bool) → comes a ≡ b → Agrees H q (changed a w answer e)
       go true c =
-          profile-agrees A m a w answer (subst (λ (v : List ℕ). Shown H (start r) (stop r) q (reqtype r) st (related r) (requested H r) v true) (after-comes H w a r c) S) f kept
+          profile-agrees A m a w answer (subst (λ (v : List ℕ). Shown H (start r) (stop r) q (reqtype r) st (related r) (requested H r) v true) (granted-comes H w a r c) S) f kept
           (granted-new a w e kind offer c) (came c .some)
       go false c =
-          force-agrees A m a w answer (subst (λ (v : List ℕ). Shown H (start r) (stop r) q (reqtype r) st (related r) (requested H r) v true) (after-none H w a r c) S) f (z c) (kept ∙ A .same-requested) (A .asked)
+          force-agrees A m a w answer (subst (λ (v : List ℕ). Shown H (start r) (stop r) q (reqtype r) st (related r) (requested H r) v true) (granted-stays H w a r c) S) f (z c) (kept ∙ A .same-requested) (A .asked)
           (in-force A m a w answer) (granted-kept a w e (inr (inr c)))
 
   -- to 6, 7, 10, 11
-  pub offered-agrees : (expires : ℕ) → answer .after ≡ a .status → Agrees H (offered H expires w a r) (changed a w answer e)
+  pub offered-agrees : (expires : ℕ) → answer .after ≡ a .status → Agrees H (offered H expires a (grantedAfter H w a r) r) (changed a w answer e)
   offered-agrees expires f = go (comes a || accepts a) refl
     where
-      go : (b : Bool) → (comes a || accepts a) ≡ b → Agrees H (offered H expires w a r) (changed a w answer e)
+      go : (b : Bool) → (comes a || accepts a) ≡ b → Agrees H (offered H expires a (grantedAfter H w a r) r) (changed a w answer e)
       go true c =
-          after-agrees (shown-granted (shown A m) expires w a c after-length) f
+          after-agrees (shown-granted (shown A m) expires a (grantedAfter H w a r) c after-length) f
           (λ n. accepts-settles a (sym (ap (λ (b : Bool). b || accepts a) n) ∙ c))
       go false c =
           let n = or-none (comes a) (accepts a) c in
-          same-agrees A m a w answer (shown-offered (shown A m) expires w a c) f (counters-unsettled a offer (n .1)) kept (granted-kept a w e (inr (inr (n .0))))
+          same-agrees A m a w answer (shown-offered (shown A m) expires a (grantedAfter H w a r) c) f (counters-unsettled a offer (n .1)) kept (granted-kept a w e (inr (inr (n .0))))
 
   -- through 10 to 13
   module _ (expires : ℕ) (on : a .status ≡ ACCEPTED) where
     grants : (comes a || accepts a) ≡ true
-    unfolding accepts
-    grants = simp (eq-eqb (a .status) 10 on, or-true)
+    grants = accepted-grants a on
 
-    pub offered-start : start (offered H expires w a r) ≡ start r
-    offered-start = shown-granted (shown A m) expires w a grants after-length .start
+    pub offered-start : start (offered H expires a (grantedAfter H w a r) r) ≡ start r
+    offered-start = shown-granted (shown A m) expires a (grantedAfter H w a r) grants after-length .start
 
     pub offered-confirms : (s : ℕ) → s ≡ start r → answer .after ≡ CONFIRMED
-        → Agrees H (held H s (grantedAfter H w a r) (offered H expires w a r)) (changed a w answer e) × Agrees H (emptied H s (grantedAfter H w a r) (offered H expires w a r)) (changed a w answer e)
+        → Agrees H (held H s (grantedAfter H w a r) (offered H expires a (grantedAfter H w a r) r)) (changed a w answer e) × Agrees H (emptied H s (grantedAfter H w a r) (offered H expires a (grantedAfter H w a r) r)) (changed a w answer e)
     offered-confirms s z f =
-        subst (λ (i : ℕ). Agrees H (held H i (grantedAfter H w a r) (offered H expires w a r)) (changed a w answer e) × Agrees H (emptied H i (grantedAfter H w a r) (offered H expires w a r)) (changed a w answer e)) (sym z) (
-          after-agrees (shown-held (shown-granted (shown A m) expires w a grants after-length) (grantedAfter H w a r) after-length) f (λ _. inr (inr refl)),
-          after-agrees (shown-emptied (shown-granted (shown A m) expires w a grants after-length) (grantedAfter H w a r) after-length) f (λ _. inr (inr refl)),
+        subst (λ (i : ℕ). Agrees H (held H i (grantedAfter H w a r) (offered H expires a (grantedAfter H w a r) r)) (changed a w answer e) × Agrees H (emptied H i (grantedAfter H w a r) (offered H expires a (grantedAfter H w a r) r)) (changed a w answer e)) (sym z) (
+          after-agrees (shown-held (shown-granted (shown A m) expires a (grantedAfter H w a r) grants after-length) (grantedAfter H w a r) after-length) f (λ _. inr (inr refl)),
+          after-agrees (shown-emptied (shown-granted (shown A m) expires a (grantedAfter H w a r) grants after-length) (grantedAfter H w a r) after-length) f (λ _. inr (inr refl)),
         )
 
 -- ---- the other rows, and their entries
@@ -473,45 +460,11 @@ module _ {H : ℕ} {l w : List ℕ} {a : Action} (passed : SubmitPassed H l w a)
       agrees-shown (shown-requested begun-shown (profile w a) (profile-length (passed .profile))) refl f refl refl refl refl (passed .profile .some) (λ x. cc)
       (never-settles {s = QUEUED} (λ y. omega (arith, y), λ y. omega (arith, y), λ y. omega (arith, y)) false)
 
--- ---- all entries, after an action that leaves row c as q
+-- a row whose words are sound has its span in the hours
 pub words-spanned : {H : ℕ} {r : List ℕ} → SoundWords H r → length r ≡ rowSize H → Spanned H r
 words-spanned f long = record { long = long; starts = omega (arith, f .starts); stops = f .stops }
-
-module _ {R H : ℕ} {l l′ : List ℕ} {c : ℕ} {q : List ℕ} (L : Leaves R H l l′ c q) (t : Tally) (a : Action) (w : List ℕ) (answer : Answer) (count : counts answer ≡ true) (reference : answer .reference ≡ suc c)
-    (spans : (n : ℕ) → n < used l → Spanned H (row H l n)) (agree : (n : ℕ) → n < used l → Agrees H (row H l n) (t (suc n))) where
-  others-agree : (n : ℕ) → n < used l → n < R → n ≢ c → Agrees H (row H l′ n) (t (suc n))
-  others-agree n lt ltR ne = agrees-kin (L .kin n ne ltR) (spans n lt) (agree n lt)
-
-  pub entries-kept : a .kind ≢ 1 → Agrees H q (changed a w answer (t (suc c))) → (n : ℕ) → n < used l → n < R → Agrees H (row H l′ n) (feed a w answer t (suc n))
-  entries-kept later own n lt ltR = go (ℕ-discrete n c)
-    where
-      here : Agrees H (row H l′ c) (feed a w answer t (suc c))
-      here =
-          subst (λ (r : List ℕ). Agrees H r (feed a w answer t (suc c))) (sym (L .own))
-          (subst (λ (i : ℕ). Agrees H q (changed a w answer (t i)) → Agrees H q (feed a w answer t i)) reference (agrees-like (fed-own a w answer t count later)) own)
-
-      go : Dec (n ≡ c) → Agrees H (row H l′ n) (feed a w answer t (suc n))
-      go (yes e) = subst (λ (i : ℕ). Agrees H (row H l′ i) (feed a w answer t (suc i))) (sym e) here
-      go (no ne) = agrees-like (fed-other a w answer t count later (suc n) (λ z. ne (omega arith))) (others-agree n lt ltR ne)
 
 -- the row that a confirmation leaves is one of the two
 pub agrees-either : {H : ℕ} {x y : List ℕ} {e : Entry} → (b : Bool) → Agrees H x e × Agrees H y e → Agrees H (pick b y x) e
 agrees-either true A = A .1
 agrees-either false A = A .0
-
--- ---- all entries, after a submission that leaves the new row as q
-pub entries-opened : {H : ℕ} (l l′ : List ℕ) {q : List ℕ} → row H l′ (used l) ≡ q → ((n : ℕ) → n ≢ used l → row H l′ n ≡ row H l n)
-    → (t : Tally) (a : Action) (w : List ℕ) (answer : Answer) → counts answer ≡ true → a .kind ≡ 1 → answer .reference ≡ suc (used l)
-    → ((n : ℕ) → n < used l → Agrees H (row H l n) (t (suc n))) → Agrees H q (opened a w answer) → (n : ℕ) → n < suc (used l) → Agrees H (row H l′ n) (feed a w answer t (suc n))
-entries-opened {H} l l′ {q} own other t a w answer count submit reference agree new n lt = go (ℕ-discrete n (used l))
-  where
-    here : Agrees H (row H l′ (used l)) (feed a w answer t (suc (used l)))
-    here =
-        subst (λ (r : List ℕ). Agrees H r (feed a w answer t (suc (used l)))) (sym own)
-        (subst (λ (f : Entry). Agrees H q f) (sym (opened-own a w answer t count submit) ∙ ap (λ (i : ℕ). feed a w answer t i) reference) new)
-
-    go : Dec (n ≡ used l) → Agrees H (row H l′ n) (feed a w answer t (suc n))
-    go (yes e) = subst (λ (i : ℕ). Agrees H (row H l′ i) (feed a w answer t (suc i))) (sym e) here
-    go (no ne) =
-        subst (λ (r : List ℕ). Agrees H r (feed a w answer t (suc n))) (sym (other n ne))
-        (subst (λ (f : Entry). Agrees H (row H l n) f) (sym (opened-other a w answer t count submit (suc n) (λ z. ne (omega arith)))) (agree n (omega arith)))

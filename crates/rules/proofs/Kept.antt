@@ -27,7 +27,8 @@ use Rattle.rules.proofs.SoundFacts.{SoundHead, SoundWords, SoundRelatio
 use Rattle.rules.proofs.Formed.{FormedHours, Formed}
 use Rattle.rules.proofs.Leaves.{Kin, Leaves}
 use Rattle.rules.proofs.Passed.{ProfilePassed, profile-length}
-use Rattle.rules.proofs.Effects.{written, written-field, zipped, Spanned, row-spanned, span-room, span-length, own-leaves, displace-leaves, annul-leaves, reduce-leaves, confirm-leaves}
+use Rattle.rules.proofs.Spans.{Spanned, span-room, span-length}
+use Rattle.rules.proofs.Effects.{written, written-field, zipped, row-spanned, own-leaves, displace-leaves, annul-leaves, reduce-leaves, confirm-leaves}
 
 -- row q is row r with another status, flags, prices, limit and hours, and formed
 pub record Same (H : ℕ) (r q : List ℕ) : Type 0 where
@@ -216,57 +217,61 @@ pub record Stores (k v : ℕ) : Type 0 where
   pub offer : k ≡ 9 → v ≤ mostPrice
   pub limit : k ≡ 10 → v < endLimit
 
-module _ {H : ℕ} {r q : List ℕ} (o : Same H r q) {k v : ℕ} (s : Stores k v) where
+module _ {H : ℕ} {q : List ℕ} (long : length q ≡ rowSize H) (w : SoundWords H q) {k v : ℕ} (s : Stores k v) where
   -- the word j is as it was, or is v
   word-or : (P : ℕ → Type 0) (j : ℕ) → P (getD q j 0) → (k ≡ j → P v) → P (getD (set q k v) j 0)
   word-or P j old new = go (ℕ-discrete j k)
     where
       go : Dec (j ≡ k) → P (getD (set q k v) j 0)
       go (yes e) =
-          subst P (sym (ap (λ (i : ℕ). getD (set q k v) i 0) e ∙ getD-set-same q k v 0 (omega (arith, s .most, o .long)))) (new (sym e))
+          subst P (sym (ap (λ (i : ℕ). getD (set q k v) i 0) e ∙ getD-set-same q k v 0 (omega (arith, s .most, long)))) (new (sym e))
       go (no ne) = subst P (sym (getD-set-other q k j v 0 ne)) old
 
   word-kept : (j : ℕ) → ((j ≡ 0) ⊎ ((2 ≤ j) × (j ≤ 6))) ⊎ (11 ≤ j) → getD (set q k v) j 0 ≡ getD q j 0
-  word-kept j w = getD-set-other q k j v 0 (λ e. ⊎-elim (λ x. ⊎-elim (λ y. omega (arith, s .least)) (λ y. omega (arith, s .jump (omega arith))) x) (λ x. omega (arith, s .most)) w)
+  word-kept j o = getD-set-other q k j v 0 (λ e. ⊎-elim (λ x. ⊎-elim (λ y. omega (arith, s .least)) (λ y. omega (arith, s .jump (omega arith))) x) (λ x. omega (arith, s .most)) o)
 
-  words-set : SoundWords H (set q k v)
+  pub words-set : SoundWords H (set q k v)
   words-set = record {
-    type-least = omega (arith, word-kept 0 (inl (inl refl)), o .words .type-least);
-    type-most = omega (arith, word-kept 0 (inl (inl refl)), o .words .type-most);
-    status-least = word-or (λ x. 1 ≤ x) 1 (o .words .status-least) (λ e. s .status e .0);
-    status-most = word-or (λ x. x ≤ mostStatus) 1 (o .words .status-most) (λ e. s .status e .1);
-    customer = rw (word-kept 2 (inl (inr (omega arith, omega arith)))) (o .words .customer);
-    seller = rw (word-kept 3 (inl (inr (omega arith, omega arith)))) (o .words .seller);
-    starts = omega (arith, word-kept 5 (inl (inr (omega arith, omega arith))), word-kept 6 (inl (inr (omega arith, omega arith))), o .words .starts);
-    stops = omega (arith, word-kept 6 (inl (inr (omega arith, omega arith))), o .words .stops);
-    flags = word-or (λ x. x ≤ mostFlags) 7 (o .words .flags) (s .flags);
-    bid = word-or (λ x. x ≤ mostPrice) 8 (o .words .bid) (s .bid);
-    offer = word-or (λ x. x ≤ mostPrice) 9 (o .words .offer) (s .offer);
-    limit = word-or (λ x. x < endLimit) 10 (o .words .limit) (s .limit);
-    rest = λ j least most. word-kept j (inr least) ∙ o .words .rest j least most;
+    type-least = omega (arith, word-kept 0 (inl (inl refl)), w .type-least);
+    type-most = omega (arith, word-kept 0 (inl (inl refl)), w .type-most);
+    status-least = word-or (λ x. 1 ≤ x) 1 (w .status-least) (λ e. s .status e .0);
+    status-most = word-or (λ x. x ≤ mostStatus) 1 (w .status-most) (λ e. s .status e .1);
+    customer = rw (word-kept 2 (inl (inr (omega arith, omega arith)))) (w .customer);
+    seller = rw (word-kept 3 (inl (inr (omega arith, omega arith)))) (w .seller);
+    starts = omega (arith, word-kept 5 (inl (inr (omega arith, omega arith))), word-kept 6 (inl (inr (omega arith, omega arith))), w .starts);
+    stops = omega (arith, word-kept 6 (inl (inr (omega arith, omega arith))), w .stops);
+    flags = word-or (λ x. x ≤ mostFlags) 7 (w .flags) (s .flags);
+    bid = word-or (λ x. x ≤ mostPrice) 8 (w .bid) (s .bid);
+    offer = word-or (λ x. x ≤ mostPrice) 9 (w .offer) (s .offer);
+    limit = word-or (λ x. x < endLimit) 10 (w .limit) (s .limit);
+    rest = λ j least most. word-kept j (inr least) ∙ w .rest j least most;
   }
 
+module _ {H : ℕ} {r q : List ℕ} (o : Same H r q) {k v : ℕ} (s : Stores k v) where
   pub same-set : Same H r (set q k v)
   same-set = record {
     long = length-set q k v ∙ o .long;
-    type = word-kept 0 (inl (inl refl)) ∙ o .type;
-    related = word-kept 4 (inl (inr (omega arith, omega arith))) ∙ o .related;
+    type = kept 0 (inl (inl refl)) ∙ o .type;
+    related = kept 4 (inl (inr (omega arith, omega arith))) ∙ o .related;
     start = starts ∙ o .start;
     stop = stops ∙ o .stop;
-    words = words-set;
+    words = words-set (o .long) (o .words) s;
     hours = record {
-      most = λ p h plt hlt. omega (arith, word-kept (hourAt H p h) (inr (omega arith)), o .hours .most p h plt hlt);
+      most = λ p h plt hlt. omega (arith, kept (hourAt H p h) (inr (omega arith)), o .hours .most p h plt hlt);
       outside = λ p h plt hlt w.
-          word-kept (hourAt H p h) (inr (omega arith))
+          kept (hourAt H p h) (inr (omega arith))
           ∙ o .hours .outside p h plt hlt (⊎-elim (λ u. inl (omega (arith, starts))) (λ u. inr (omega (arith, stops))) w);
     };
   }
     where
+      kept : (j : ℕ) → ((j ≡ 0) ⊎ ((2 ≤ j) × (j ≤ 6))) ⊎ (11 ≤ j) → getD (set q k v) j 0 ≡ getD q j 0
+      kept = word-kept (o .long) (o .words) s
+
       starts : getD (set q k v) 5 0 ≡ start q
-      starts = word-kept 5 (inl (inr (omega arith, omega arith)))
+      starts = kept 5 (inl (inr (omega arith, omega arith)))
 
       stops : getD (set q k v) 6 0 ≡ stop q
-      stops = word-kept 6 (inl (inr (omega arith, omega arith)))
+      stops = kept 6 (inl (inr (omega arith, omega arith)))
 
 -- flags stay at most 31: a flag that is not there is added
 pub flagged-most : (word : ℕ) → word ≤ mostFlags → (flagged approved word ≤ mostFlags) × (flagged grantedGiven word ≤ mostFlags) × (flagged offerGiven word ≤ mostFlags)
@@ -285,66 +290,81 @@ flagged-most word most = (four (eqb (word / 4 % 2) 1) refl, eight (eqb (word / 8
     sixteen true e = most
     sixteen false e = let ne : word / 16 % 2 ≢ 1 = eqb-false _ _ e in omega arith
 
+stores-status : {s : ℕ} → 1 ≤ s → s ≤ mostStatus → Stores 1 s
+stores-status a b = record {
+  least = omega arith;
+  jump = λ e. absurd (omega arith);
+  most = omega arith;
+  status = λ e. (a, b);
+  flags = λ e. absurd (omega arith);
+  bid = λ e. absurd (omega arith);
+  offer = λ e. absurd (omega arith);
+  limit = λ e. absurd (omega arith);
+}
+
+stores-flags : {f : ℕ} → f ≤ mostFlags → Stores 7 f
+stores-flags a = record {
+  least = omega arith;
+  jump = λ e. omega arith;
+  most = omega arith;
+  status = λ e. absurd (omega arith);
+  flags = λ e. a;
+  bid = λ e. absurd (omega arith);
+  offer = λ e. absurd (omega arith);
+  limit = λ e. absurd (omega arith);
+}
+
+stores-bid : {p : ℕ} → p ≤ mostPrice → Stores 8 p
+stores-bid a = record {
+  least = omega arith;
+  jump = λ e. omega arith;
+  most = omega arith;
+  status = λ e. absurd (omega arith);
+  flags = λ e. absurd (omega arith);
+  bid = λ e. a;
+  offer = λ e. absurd (omega arith);
+  limit = λ e. absurd (omega arith);
+}
+
+stores-offer : {p : ℕ} → p ≤ mostPrice → Stores 9 p
+stores-offer a = record {
+  least = omega arith;
+  jump = λ e. omega arith;
+  most = omega arith;
+  status = λ e. absurd (omega arith);
+  flags = λ e. absurd (omega arith);
+  bid = λ e. absurd (omega arith);
+  offer = λ e. a;
+  limit = λ e. absurd (omega arith);
+}
+
+stores-limit : {t : ℕ} → t < endLimit → Stores 10 t
+stores-limit a = record {
+  least = omega arith;
+  jump = λ e. omega arith;
+  most = omega arith;
+  status = λ e. absurd (omega arith);
+  flags = λ e. absurd (omega arith);
+  bid = λ e. absurd (omega arith);
+  offer = λ e. absurd (omega arith);
+  limit = λ e. a;
+}
+
 module _ {H : ℕ} {r q : List ℕ} (o : Same H r q) where
   pub same-status : {s : ℕ} → 1 ≤ s → s ≤ mostStatus → Same H r (setStatus s q)
-  same-status a b = same-set o (record {
-    least = omega arith;
-    jump = λ e. absurd (omega arith);
-    most = omega arith;
-    status = λ e. (a, b);
-    flags = λ e. absurd (omega arith);
-    bid = λ e. absurd (omega arith);
-    offer = λ e. absurd (omega arith);
-    limit = λ e. absurd (omega arith);
-  })
+  same-status a b = same-set o (stores-status a b)
 
   pub same-flags : {f : ℕ} → f ≤ mostFlags → Same H r (set q 7 f)
-  same-flags a = same-set o (record {
-    least = omega arith;
-    jump = λ e. omega arith;
-    most = omega arith;
-    status = λ e. absurd (omega arith);
-    flags = λ e. a;
-    bid = λ e. absurd (omega arith);
-    offer = λ e. absurd (omega arith);
-    limit = λ e. absurd (omega arith);
-  })
+  same-flags a = same-set o (stores-flags a)
 
   pub same-bid : {p : ℕ} → p ≤ mostPrice → Same H r (setBid p q)
-  same-bid a = same-set o (record {
-    least = omega arith;
-    jump = λ e. omega arith;
-    most = omega arith;
-    status = λ e. absurd (omega arith);
-    flags = λ e. absurd (omega arith);
-    bid = λ e. a;
-    offer = λ e. absurd (omega arith);
-    limit = λ e. absurd (omega arith);
-  })
+  same-bid a = same-set o (stores-bid a)
 
   pub same-offer : {p : ℕ} → p ≤ mostPrice → Same H r (setOffer p q)
-  same-offer a = same-set o (record {
-    least = omega arith;
-    jump = λ e. omega arith;
-    most = omega arith;
-    status = λ e. absurd (omega arith);
-    flags = λ e. absurd (omega arith);
-    bid = λ e. absurd (omega arith);
-    offer = λ e. a;
-    limit = λ e. absurd (omega arith);
-  })
+  same-offer a = same-set o (stores-offer a)
 
   pub same-limit : {t : ℕ} → t < endLimit → Same H r (setLimit t q)
-  same-limit a = same-set o (record {
-    least = omega arith;
-    jump = λ e. omega arith;
-    most = omega arith;
-    status = λ e. absurd (omega arith);
-    flags = λ e. absurd (omega arith);
-    bid = λ e. absurd (omega arith);
-    offer = λ e. absurd (omega arith);
-    limit = λ e. a;
-  })
+  same-limit a = same-set o (stores-limit a)
 
   pub same-approved : Same H r (raise approved q)
   same-approved = same-flags (flagged-most (flags q) (o .words .flags) .0)
@@ -430,7 +450,7 @@ pub same-displaced : {H : ℕ} {r : List ℕ} → Same H r r → Same H r (displ
 unfolding displacedRow
 same-displaced {H} {r} o =
     same-status
-    (same-clear (same-added o (available H r) (span-length (record { long = o .long; starts = omega (arith, o .words .starts); stops = o .words .stops }) {p = availablePart} (lit< tt)))
+    (same-clear (same-added o (available H r) (span-length (record { long = o .long; starts = omega (arith, o .words .starts); stops = o .words .stops }) availablePart (lit< tt)))
     availablePart (lit< tt) (spanHours r) (omega (arith, o .words .starts)))
     (omega arith) (omega arith)
 
@@ -448,11 +468,17 @@ same-when : {H : ℕ} {r q : List ℕ} (f : List ℕ → List ℕ) (b : Bool) �
 same-when f true o s = s refl
 same-when f false o s = o
 
-pub same-offered : {H : ℕ} {r : List ℕ} → Same H r r → (expires : ℕ) → expires < endLimit → (w : List ℕ) (a : Action) → a .price ≤ mostPrice → 1 ≤ a .status → a .status ≤ mostStatus → Fitting (grantedAfter H w a r) r → Same H r (offered H expires w a r)
+-- a row with an offer, and its flag
+pub words-priced : {H : ℕ} {r : List ℕ} → length r ≡ rowSize H → SoundWords H r → {p : ℕ} → p ≤ mostPrice → SoundWords H (raise offerGiven (setOffer p r))
+words-priced {H} {r} long w {p} most =
+    let o = words-set long w (stores-offer most) in
+    words-set (length-set r 9 p ∙ long) o (stores-flags (flagged-most (flags (setOffer p r)) (o .flags) .2))
+
+pub same-offered : {H : ℕ} {r : List ℕ} → Same H r r → (expires : ℕ) → expires < endLimit → (a : Action) → a .price ≤ mostPrice → 1 ≤ a .status → a .status ≤ mostStatus → {mw : List ℕ} → Fitting mw r → Same H r (offered H expires a mw r)
 unfolding offered
-same-offered {H} {r} o expires e w a p s t f =
+same-offered {H} {r} o expires e a p s t {mw} f =
     let offers = same-offer-given (same-offer o p) in
-    same-status (same-limit (same-when (grant H (start r) (grantedAfter H w a r)) (comes a || accepts a) offers (λ _. same-grant offers f)) e) s t
+    same-status (same-limit (same-when (grant H (start r) mw) (comes a || accepts a) offers (λ _. same-grant offers f)) e) s t
 
 pub same-bidden : {H : ℕ} {r : List ℕ} → Same H r r → (w : List ℕ) (a : Action) → a .price ≤ mostPrice → (comes a ≡ true → Fitting (profile w a) r) → Same H r (bidden H w a r)
 unfolding bidden
@@ -536,10 +562,10 @@ module _ {H : ℕ} {r : List ℕ} (o : Same H r r) where
   fitting-span p plt =
       let plt′ : p < profiles = omega arith in
       record {
-        counted = span-length spanned plt′;
+        counted = span-length spanned p plt′;
         most = within-all mostMegawatts (span H p r)
             (λ k lt.
-            let k′ : k < spanHours r = omega (arith, span-length spanned plt′) in
+            let k′ : k < spanHours r = omega (arith, span-length spanned p plt′) in
             let e : hourAt H p (start r) + k ≡ hourAt H p (start r + k) = omega arith in
             let w : getD (span H p r) k 0 ≡ getD r (hourAt H p (start r + k)) 0 = part-at r (hourAt H p (start r)) (spanHours r) (span-room spanned plt′) k k′ ∙ ap (λ (i : ℕ). getD r i 0) e in
             omega (arith, w, o .hours .most p (start r + k) plt (omega (arith, o .words .stops))));

@@ -1,4 +1,5 @@
 pub mod Picks
+pub mod Types
 pub mod Rows
 pub mod Seen
 pub mod SoundFacts
@@ -11,11 +12,11 @@ pub mod Leaves
 pub mod Effects
 pub mod Passed
 pub mod Spans
+pub mod Forces
 pub mod Placed
 pub mod Steps
 pub mod Others
 pub mod Quiet
-pub mod Profiles
 pub mod Begins
 pub mod Kept
 pub mod Submitted

@@ -21,7 +21,8 @@ use Rattle.rules.proofs.Writes.{words, megawatts, seen-taken, seen-give
 use Rattle.rules.proofs.Turned.{Turned, turned, kept-word, still}
 use Rattle.rules.proofs.View.{view}
 use Rattle.rules.proofs.Formed.{Formed}
-use Rattle.rules.proofs.Placed.{Placed, placed, is-original, no-original, own-long, above-row, room-for, span-fits, zero-span, span-length, span-standing, equal-hour}
+use Rattle.rules.proofs.Types.{original-type, derived-type}
+use Rattle.rules.proofs.Placed.{Placed, placed, own-long, above-row, room-for, span-fits, zero-span, span-length, span-standing, equal-hour}
 
 -- ---- annulling, by the row's type
 module _ (H n : ℕ) (l : List ℕ) where
@@ -31,11 +32,11 @@ module _ (H n : ℕ) (l : List ℕ) where
 
   is-annul-top : 1 ≤ reqtype (row H l n) → reqtype (row H l n) ≤ 2 → onRow H n (annulledRow H) l ≡ annul H n l
   unfolding annul
-  is-annul-top a b = sym (ap (λ (x : Bool). onRow H n (annulledRow H) (pick (not x) returnedTo l)) (is-original (reqtype (row H l n)) a b))
+  is-annul-top a b = sym (ap (λ (x : Bool). onRow H n (annulledRow H) (pick (not x) returnedTo l)) (original-type (reqtype (row H l n)) a b))
 
   is-annul-child : 3 ≤ reqtype (row H l n) → onRow H n (annulledRow H) returnedTo ≡ annul H n l
   unfolding annul
-  is-annul-child t = sym (ap (λ (x : Bool). onRow H n (annulledRow H) (pick (not x) returnedTo l)) (no-original (reqtype (row H l n)) t))
+  is-annul-child t = sym (ap (λ (x : Bool). onRow H n (annulledRow H) (pick (not x) returnedTo l)) (derived-type (reqtype (row H l n)) t))
 
 module _ {R H : ℕ} {l : List ℕ} {n : ℕ} (o : Placed R H l n) {h : ℕ} (hlt : h < H) where
   abbrev s : ℕ

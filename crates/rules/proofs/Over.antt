@@ -19,14 +19,14 @@ use Rattle.rules.specs.Megawatts.{takeFrom, returnsTo, giveBack, displac
 use Rattle.rules.specs.Confirming.{held, emptied, confirmOriginal, confirmDerived, confirmRelinquish, confirm}
 use Rattle.rules.specs.Checks.{profile, comes}
 use Rattle.rules.specs.Submit.{newRow, submitAfter}
-use Rattle.rules.specs.SellerStatus.{grantedAfter, offered}
+use Rattle.rules.specs.SellerStatus.{offered}
 use Rattle.rules.specs.CustomerStatus.{bidden}
 use Rattle.rules.specs.Clock.{clockAfter}
 use Rattle.rules.specs.declared.Action.{Action}
 use Rattle.rules.proofs.Rows.{row-length, row-least, head-row}
 use Rattle.rules.proofs.Turned.{Turned, turned}
 use Rattle.rules.proofs.SoundFacts.{SoundLedger, sized}
-use Rattle.rules.proofs.Placed.{is-original, no-original}
+use Rattle.rules.proofs.Types.{original-type, derived-type}
 use Rattle.rules.proofs.Unmoved.{Unmoved, unmoved-turned, types-stay, starts-stay, stops-stay, related-stays, unmoved-status, unmoved-raise, unmoved-offered, unmoved-bidden}
 use Rattle.rules.proofs.Bounded.{Bounded, AllBounded, not-carries, carries-false, Ranged, taken-long, given-long, held-long, emptied-long, displaced-long, annulled-long, taken-bounded, given-bounded, bounded-given, held-bounded, emptied-bounded, displaced-bounded, bounded-displaced, annulled-bounded, span-length, unmoved-bounded, new-long, new-bounded}
 
@@ -213,13 +213,13 @@ module _ {R H : ℕ} {l : List ℕ} {n : ℕ} (c : Carried R H l) (lt : n < used
       where
         go : (reqtype (row H l n) < 3) ⊎ (3 ≤ reqtype (row H l n)) → Dec (reqtype (row H l n) ≡ RELINQUISH) → carriesOver H (confirm H n mw l) ≡ overConfirming H l n mw
         go (inl t) d =
-            simp (is-original (reqtype (row H l n)) (c .types n lt) (omega (arith, t)), ne-eqb (reqtype (row H l n)) RELINQUISH (λ z. omega (arith, t, z)))
+            simp (original-type (reqtype (row H l n)) (c .types n lt) (omega (arith, t)), ne-eqb (reqtype (row H l n)) RELINQUISH (λ z. omega (arith, t, z)))
             (not-carries H (confirmOriginal H n mw l) (original-all w))
         go (inr t) (yes e) =
-            simp (no-original (reqtype (row H l n)) t, eq-eqb (reqtype (row H l n)) RELINQUISH e)
+            simp (derived-type (reqtype (row H l n)) t, eq-eqb (reqtype (row H l n)) RELINQUISH e)
             (same-carries H (confirmRelinquish H n mw l) (full H (start (row H l n)) mw (row H l (relatedRow H l (relatedRow H l n)))) (all-relinquish e) (relinquish-all e))
         go (inr t) (no ne) =
-            simp (no-original (reqtype (row H l n)) t, ne-eqb (reqtype (row H l n)) RELINQUISH ne)
+            simp (derived-type (reqtype (row H l n)) t, ne-eqb (reqtype (row H l n)) RELINQUISH ne)
             (not-carries H (confirmDerived H n mw l) (derived-all t w))
 
   -- ---- row n is annulled, and its granted given back
@@ -271,10 +271,10 @@ module _ {R H : ℕ} {l : List ℕ} {n : ℕ} (c : Carried R H l) (lt : n < used
       where
         go : (reqtype (row H l n) < 3) ⊎ (3 ≤ reqtype (row H l n)) → carriesOver H (annul H n l) ≡ overAnnulling H l n
         go (inl t) =
-            simp (is-original (reqtype (row H l n)) (c .types n lt) (omega (arith, t)))
+            simp (original-type (reqtype (row H l n)) (c .types n lt) (omega (arith, t)))
             (not-carries H (onRow H n (annulledRow H) l) (turned-bounded (annulled-turned (c .sized) refl) (c .bounded) annulled-own))
         go (inr t) =
-            simp (no-original (reqtype (row H l n)) t)
+            simp (derived-type (reqtype (row H l n)) t)
             (same-carries H (onRow H n (annulledRow H) (back t)) (full H (start (row H l n)) (granted H (row H l n)) (row H l (relatedRow H l n))) (all-back t) (back-all t))
 
   -- ---- a write in row n that moves no megawatts
@@ -401,9 +401,9 @@ module _ {l : List ℕ} (s : SoundLedger l) where
     pub own-approved : Unmoved (hours l) (row (hours l) l n) (raise approved (row (hours l) l n))
     own-approved = unmoved-raise row-long approved
 
-    pub own-offered : (expires : ℕ) (w : List ℕ) (a : Action) → length (grantedAfter (hours l) w a (row (hours l) l n)) ≡ spanHours (row (hours l) l n)
-        → Unmoved (hours l) (row (hours l) l n) (offered (hours l) expires w a (row (hours l) l n))
-    own-offered expires w a e = unmoved-offered row-long expires w a (span-fits (grantedAfter (hours l) w a (row (hours l) l n)) e)
+    pub own-offered : (expires : ℕ) (a : Action) (mw : List ℕ) → length mw ≡ spanHours (row (hours l) l n)
+        → Unmoved (hours l) (row (hours l) l n) (offered (hours l) expires a mw (row (hours l) l n))
+    own-offered expires a mw e = unmoved-offered row-long expires a mw (span-fits mw e)
 
     pub own-bidden : (w : List ℕ) (a : Action) → (comes a ≡ true → length (profile w a) ≡ spanHours (row (hours l) l n))
         → Unmoved (hours l) (row (hours l) l n) (bidden (hours l) w a (row (hours l) l n))
@@ -415,10 +415,6 @@ module _ {l : List ℕ} (s : SoundLedger l) where
     pub over-approved : carriesOver (hours l) (onRow (hours l) n (raise approved) l) ≡ false
     over-approved = over-quiet lt (raise approved) own-approved
 
-    pub over-offered : (expires : ℕ) (w : List ℕ) (a : Action) → length (grantedAfter (hours l) w a (row (hours l) l n)) ≡ spanHours (row (hours l) l n)
-        → carriesOver (hours l) (onRow (hours l) n (offered (hours l) expires w a) l) ≡ false
-    over-offered expires w a e = over-quiet lt (offered (hours l) expires w a) (own-offered expires w a e)
-
-    pub over-bidden : (w : List ℕ) (a : Action) → (comes a ≡ true → length (profile w a) ≡ spanHours (row (hours l) l n))
-        → carriesOver (hours l) (onRow (hours l) n (bidden (hours l) w a) l) ≡ false
-    over-bidden w a e = over-quiet lt (bidden (hours l) w a) (own-bidden w a e)
+    pub over-offered : (expires : ℕ) (a : Action) (mw : List ℕ) → length mw ≡ spanHours (row (hours l) l n)
+        → carriesOver (hours l) (onRow (hours l) n (offered (hours l) expires a mw) l) ≡ false
+    over-offered expires a mw e = over-quiet lt (offered (hours l) expires a mw) (own-offered expires a mw e)

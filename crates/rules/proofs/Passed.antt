@@ -7,11 +7,11 @@ use Prim.Native.Nat.{ℕ, suc, _+_, _-_, _≤_, _<_}
 use native.Mathlib.Omega.{arith}
 use lib.Dec.{eqb, leb}
 use lib.ListN.{length}
-use borrow.Author.Tests.{leb-true, ltb-true, ltb-false, leb-false, eqb-true, eqb-false, le-leb, lt-leb, eq-eqb, ne-eqb, not-true, not-false}
+use borrow.Author.Tests.{leb-true, ltb-true, ltb-false, leb-false, eqb-true, eqb-false, eq-eqb, ne-eqb, not-true, not-false}
 use Rattle.words.specs.Lists.{within, zeros, covered, equal, every}
 use Rattle.words.proofs.Laws.{and-left, and-right, part-length}
 use Rattle.column.specs.Column.{Off}
-use Rattle.rules.specs.Pick.{pick, _gives_else_, _onlyIf_, _among_}
+use Rattle.rules.specs.Pick.{pick, _onlyIf_, _among_}
 use Rattle.rules.specs.Numbers.{mostType, mostStatus, mostEntity, mostPrice, mostMegawatts, endSecond, entity, preconfirmed, coordinated, approved, ACCEPTED, CR-ACCEPTED, CONFIRMED, ANNULLED, NONFIRM-REDIRECT, RELINQUISH}
 use Rattle.rules.specs.Layout.{rows, clock, used, issued, rowOf, row, reqtype, status, start, stop, spanHours, has, granted, available}
 use Rattle.rules.specs.Sound.{original, transfer, relates, inside, firm, redirect}
@@ -20,13 +20,14 @@ use Rattle.rules.specs.Megawatts.{inForce}
 use Rattle.rules.specs.Confirming.{unapproved, unconfirmed, short, partial, confirmNumber}
 use Rattle.rules.specs.Checks.{named, namedRow, profile, comes, badProfile, badIfComes, badPrice, noReference, notProvider, badStatus, waitsAt, waitingNumber}
 use Rattle.rules.specs.Submit.{badType, badSeller, badSpan, badFlags, goodRelated, badRelated, badParties, noRowLeft, submitNumber}
-use Rattle.rules.specs.SellerStatus.{notSeller, noSellerMove, offers, grantedAfter, unfitOffer, goesOn, offerConfirmNumber, offerNumber, annulsConfirmed, partlyUsed, sellerNumber}
+use Rattle.rules.specs.SellerStatus.{notSeller, noSellerMove, offers, grantedAfter, unfitOffer, goesOn, fitNumber, offerNumber, annulsConfirmed, partlyUsed, sellerNumber}
 use Rattle.rules.specs.CustomerStatus.{notCustomer, noCustomerMove, bids, confirms, unfitBid, bidConfirmNumber, bidNumber, customerNumber}
 use Rattle.rules.specs.Approve.{notApprovable, approveNumber}
 use Rattle.rules.specs.Reduce.{notReducible, reducesTooMuch, reduceNumber}
 use Rattle.rules.specs.Lapse.{notLapsing, tooEarly, lapseNumber}
 use Rattle.rules.specs.Clock.{badTime, clockNumber}
 use Rattle.rules.specs.declared.Action.{Action}
+use Rattle.rules.proofs.Types.{original-type, derived-type}
 
 -- ---- tests and chains of checks that give 0
 pub gives-none : (t : Bool) (k m : ℕ) → pick t (suc k) m ≡ 0 → (t ≡ false) × (m ≡ 0)
@@ -129,19 +130,6 @@ confirm-passed H l n mw isApproved e =
     let c = gives-none (short H l n mw) _ _ (b .1) in
     let d = gives-none (partial H l n mw) _ _ (c .1) in
     record { unapproved = a .0; unconfirmed = b .0; short = c .0; partial = d .0 }
-
--- ---- types
-pub original-type : (t : ℕ) → 1 ≤ t → t ≤ 2 → original t ≡ true
-unfolding original
-original-type t least most = simp (le-leb 1 t least) (le-leb t 2 most)
-
-pub derived-type : (t : ℕ) → 3 ≤ t → original t ≡ false
-unfolding original
-derived-type t least = let one : 1 ≤ t = omega arith in simp (le-leb 1 t one) (lt-leb t 2 least)
-
-pub original-range : (t : ℕ) → original t ≡ true → (1 ≤ t) × (t ≤ 2)
-unfolding original
-original-range t e = let f = and-both _ _ e in (leb-true _ _ (f .0), leb-true _ _ (f .1))
 
 -- ---- submit
 -- of types 3 to 8: the related row
@@ -265,7 +253,7 @@ submit-passed H l w a e =
 pub record OfferPassed (H : ℕ) (l w : List ℕ) (a : Action) : Type 0 where
   pub profile : comes a ≡ true → ProfilePassed w a (spanHours (namedRow H l a))
   pub price : a .price ≤ mostPrice
-  pub fit : unfitOffer H w a (namedRow H l a) ≡ false
+  pub fit : unfitOffer H a (grantedAfter H w a (namedRow H l a)) (namedRow H l a) ≡ false
   pub confirms : goesOn a (namedRow H l a) ≡ true → confirmNumber H l (named a) (grantedAfter H w a (namedRow H l a)) (has approved (namedRow H l a)) ≡ 0
 
 pub record SellerPassed (H : ℕ) (l w : List ℕ) (a : Action) : Type 0 where
@@ -276,11 +264,11 @@ pub record SellerPassed (H : ℕ) (l w : List ℕ) (a : Action) : Type 0 where
   pub whole : annulsConfirmed a (namedRow H l a) ≡ true → equal (available H (namedRow H l a)) (granted H (namedRow H l a)) ≡ true
 
 offer-passed : (H : ℕ) (l w : List ℕ) (a : Action) → offerNumber H l w a ≡ 0 → OfferPassed H l w a
-unfolding offerNumber offerConfirmNumber
+unfolding offerNumber fitNumber
 offer-passed H l w a e =
     let p = gives-none (badIfComes w a (namedRow H l a)) _ _ e in
     let m = gives-none (badPrice a) _ _ (p .1) in
-    let u = gives-none (unfitOffer H w a (namedRow H l a)) _ _ (m .1) in
+    let u = gives-none (unfitOffer H a (grantedAfter H w a (namedRow H l a)) (namedRow H l a)) _ _ (m .1) in
     record {
       profile = comes-passed w a (namedRow H l a) (p .0);
       price = price-passed a (m .0);
@@ -296,29 +284,20 @@ seller-may : (a : Action) (r : List ℕ) → noSellerMove a r ≡ false → sell
 unfolding noSellerMove
 seller-may a r e = not-false _ e
 
--- the checks before the 15
-abbrev moveNumber : ℕ → List ℕ → List ℕ → Action → ℕ
-moveNumber H l w a =
-    noReference l a gives 4 else
-    badStatus a gives 2 else
-    notSeller l a (namedRow H l a) gives 3 else
-    noSellerMove a (namedRow H l a) gives 11 else
-    (offerNumber H l w a onlyIf offers a)
-
 pub seller-status-passed : (H : ℕ) (l w : List ℕ) (a : Action) → sellerNumber H l w a ≡ 0 → SellerPassed H l w a
 unfolding sellerNumber
 seller-status-passed H l w a e =
-    let o = or-else-none (moveNumber H l w a) _ e in
-    let r = gives-none (noReference l a) _ _ (o .0) in
+    let r = gives-none (noReference l a) _ _ e in
     let s = gives-none (badStatus a) _ _ (r .1) in
     let n = gives-none (notSeller l a (namedRow H l a)) _ _ (s .1) in
     let m = gives-none (noSellerMove a (namedRow H l a)) _ _ (n .1) in
+    let o = or-else-none (offerNumber H l w a onlyIf offers a) _ (m .1) in
     let p = gives-none (partlyUsed H a (namedRow H l a)) _ _ (o .1) in
     record {
       reference = reference-passed l a (r .0);
       status = status-passed a (s .0);
       may = seller-may a (namedRow H l a) (m .0);
-      offer = λ q. offer-passed H l w a (only-none (offerNumber H l w a) (offers a) (m .1) q);
+      offer = λ q. offer-passed H l w a (only-none (offerNumber H l w a) (offers a) (o .0) q);
       whole = whole-passed H a (namedRow H l a) (p .0);
     }
 

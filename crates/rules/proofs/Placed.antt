@@ -1,39 +1,22 @@
 -- A row in use of a formed ledger: what its words and its relation say of it.
 use mathlib.Core.Path.{_≡_, refl, sym, ap, subst, _∙_}
 use mathlib.Core.Logic.{_⊎_, ⊎-elim, inl, inr}
-use mathlib.Core.Bool.{Bool, true, false, _&&_}
+use mathlib.Core.Bool.{Bool, true, false}
 use mathlib.Core.List.{List}
 use Prim.Native.Nat.{ℕ, suc, _+_, _-_, _≤_, _<_}
 use native.Mathlib.Omega.{arith}
-use lib.Dec.{leb, lit<}
 use lib.ListN.{length, getD}
-use borrow.Author.Tests.{le-leb, lt-leb}
 use Rattle.words.specs.Lists.{equal}
-use Rattle.words.proofs.Laws.{lt-or-le, part-length, part-at, equal-at}
+use Rattle.words.proofs.Laws.{lt-or-le, equal-at}
 use Rattle.rules.specs.Pick.{pick}
-use Rattle.rules.specs.Numbers.{profiles, requestedPart, grantedPart, grantedGiven, RELINQUISH}
-use Rattle.rules.specs.Layout.{rows, hours, used, row, rowSize, reqtype, related, start, stop, relatedRow, spanHours, hourAt, has, span, requested, granted, standing, Sized}
-use Rattle.rules.specs.Sound.{original}
-use Rattle.rules.specs.Megawatts.{inForce}
-use Rattle.rules.specs.Checks.{profile, comes}
-use Rattle.rules.specs.SellerStatus.{grantedAfter}
-use Rattle.rules.specs.declared.Action.{Action}
+use Rattle.rules.specs.Numbers.{profiles, RELINQUISH}
+use Rattle.rules.specs.Layout.{rows, hours, used, row, rowSize, reqtype, related, start, stop, relatedRow, spanHours, has, span, standing, Sized}
+use Rattle.rules.specs.Checks.{profile}
 use Rattle.rules.proofs.Rows.{row-length}
-use Rattle.rules.proofs.Seen.{Room, hour-in, standing-in, standing-off}
+use Rattle.rules.proofs.Seen.{Room, standing-in, standing-off}
+use Rattle.rules.proofs.Spans.{Spanned, span-at, span-length as long}
 use Rattle.rules.proofs.Writes.{megawatts}
 use Rattle.rules.proofs.Formed.{Formed, formed-sized}
-
--- ---- types 1 and 2, and the others
-pub is-original : (t : ℕ) → 1 ≤ t → t ≤ 2 → original t ≡ true
-unfolding original
-is-original t a b = ap (λ (x : Bool). x && leb t 2) (le-leb 1 t a) ∙ le-leb t 2 b
-
-pub no-original : (t : ℕ) → 3 ≤ t → original t ≡ false
-unfolding original
-no-original t a =
-    let low : 1 ≤ t = omega (arith, a) in
-    let high : 2 < t = omega (arith, a) in
-    ap (λ (x : Bool). x && leb t 2) (le-leb 1 t low) ∙ lt-leb t 2 high
 
 -- ---- row n of a ledger of R rows and H hours
 pub record Placed (R H : ℕ) (l : List ℕ) (n : ℕ) : Type 0 where
@@ -115,17 +98,15 @@ module _ {R H : ℕ} {l : List ℕ} {n : ℕ} (o : Placed R H l n) where
   pub zero-for : {h : ℕ} → h < H → (v : List ℕ) → length v ≡ spanHours (row H l n) → (p : ℕ) → p < profiles → (h < start (row H l n)) ⊎ (start (row H l n) + length v ≤ h) → megawatts H h (row H l n) p ≡ 0
   zero-for {h} hlt v e p plt z = zero-span hlt p plt (⊎-elim (λ u. inl u) (λ u. inr (omega (arith, u, e))) z)
 
+  own-spanned : Spanned H (row H l n)
+  own-spanned = record { long = own-long; starts = omega (arith, o .starts); stops = o .stops }
+
   -- its own profile p: as long as the span, and at hour h what stands there
   pub span-length : (p : ℕ) → p < profiles → length (span H p (row H l n)) ≡ spanHours (row H l n)
-  unfolding span
-  span-length p plt = part-length (row H l n) (hourAt H p (start (row H l n))) (spanHours (row H l n)) (omega (arith, own-long, hour-in H plt, o .starts, o .stops))
+  span-length p plt = long own-spanned p plt
 
   span-word : (p : ℕ) → p < profiles → {k : ℕ} → k < spanHours (row H l n) → getD (span H p (row H l n)) k 0 ≡ megawatts H (start (row H l n) + k) (row H l n) p
-  unfolding span
-  span-word p plt {k} lt =
-      let i : hourAt H p (start (row H l n)) + k ≡ hourAt H p (start (row H l n) + k) = omega arith in
-      part-at (row H l n) (hourAt H p (start (row H l n))) (spanHours (row H l n)) (omega (arith, own-long, hour-in H plt, o .starts, o .stops)) k lt
-      ∙ ap (λ (j : ℕ). getD (row H l n) j 0) i
+  span-word p plt {k} lt = span-at own-spanned p plt k lt
 
   pub span-standing : {h : ℕ} → h < H → (p : ℕ) → p < profiles → standing (start (row H l n)) (span H p (row H l n)) h ≡ megawatts H h (row H l n) p
   span-standing {h} hlt p plt = go (lt-or-le h (start (row H l n))) (lt-or-le h (stop (row H l n)))
@@ -157,13 +138,3 @@ module _ {R H : ℕ} {l : List ℕ} {n : ℕ} (o : Placed R H l n) where
           ∙ span-word q qlt lt
           ∙ ap (λ (j : ℕ). megawatts H j (row H l n) q) k
       go (inr u) (inr t) = o .outside p h plt hlt (inr t) ∙ sym (o .outside q h qlt hlt (inr t))
-
-  -- as long as the span are also the profile in force, and granted after a seller's move
-  pub in-force-length : length (inForce H (row H l n)) ≡ spanHours (row H l n)
-  unfolding inForce
-  in-force-length =
-      pick-length (has grantedGiven (row H l n)) (granted H (row H l n)) (requested H (row H l n)) (λ _. span-length grantedPart (lit< tt)) (λ _. span-length requestedPart (lit< tt))
-
-  pub granted-after-length : (w : List ℕ) (a : Action) → (comes a ≡ true → length (profile w a) ≡ spanHours (row H l n)) → length (grantedAfter H w a (row H l n)) ≡ spanHours (row H l n)
-  unfolding grantedAfter
-  granted-after-length w a e = pick-length (comes a) (profile w a) (inForce H (row H l n)) e (λ _. in-force-length)

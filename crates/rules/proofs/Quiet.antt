@@ -15,7 +15,7 @@ use Rattle.rules.specs.Numbers.{rowWords, requestedPart, grantedPart, av
 use Rattle.rules.specs.Layout.{hours, used, row, onRow, rowSize, reqtype, status, related, start, spanHours, hourAt, setHours, setStatus, raise}
 use Rattle.rules.specs.Megawatts.{grant}
 use Rattle.rules.specs.Checks.{profile, comes}
-use Rattle.rules.specs.SellerStatus.{accepts, grantedAfter, offered}
+use Rattle.rules.specs.SellerStatus.{accepts, offered}
 use Rattle.rules.specs.CustomerStatus.{bidden}
 use Rattle.rules.specs.declared.Action.{Action}
 use Rattle.column.specs.Column.{Off}
@@ -123,38 +123,22 @@ module _ {R H : ℕ} {l : List ℕ} {n : ℕ} (o : Placed R H l n) (h : ℕ) whe
   grant-calm mw long c =
       calm-set (calm-hours c grantedPart (start (row H l n)) mw (lit< tt) (omega (arith, long, span-fits o))) 7 _ (lit< tt) (λ e. omega (arith, e)) (λ e. omega (arith, e)) (λ e. omega (arith, e))
 
-  pub offered-calm : (expires : ℕ) (w : List ℕ) (a : Action) → length (grantedAfter H w a (row H l n)) ≡ spanHours (row H l n) → Calm H h (row H l n) (offered H expires w a (row H l n)) (a .status)
+  pub offered-calm : (expires : ℕ) (a : Action) (mw : List ℕ) → length mw ≡ spanHours (row H l n) → Calm H h (row H l n) (offered H expires a mw (row H l n)) (a .status)
   unfolding offered
-  offered-calm expires w a long =
+  offered-calm expires a mw long =
       let A = calm-set own-calm 9 (a .price) (lit< tt) (λ e. omega (arith, e)) (λ e. omega (arith, e)) (λ e. omega (arith, e)) in
       let B = calm-set A 7 _ (lit< tt) (λ e. omega (arith, e)) (λ e. omega (arith, e)) (λ e. omega (arith, e)) in
-      let C = calm-when (comes a || accepts a) (grant H (start (row H l n)) (grantedAfter H w a (row H l n))) B (λ e. grant-calm (grantedAfter H w a (row H l n)) long B) in
+      let C = calm-when (comes a || accepts a) (grant H (start (row H l n)) mw) B (λ e. grant-calm mw long B) in
       calm-status (calm-set C 10 expires (lit< tt) (λ e. omega (arith, e)) (λ e. omega (arith, e)) (λ e. omega (arith, e))) (a .status)
 
 -- ---- of a formed ledger
 module _ {l : List ℕ} {n : ℕ} (f : Formed l) (lt : n < used l) (before : Off (status (row (hours l) l n))) {h : ℕ} (hlt : h < hours l) (out out′ : ℕ → ℕ → ℤ) (red red′ : ℕ → ℤ) where
-  pub quiet-step : (g : List ℕ → List ℕ) → length (g (row (hours l) l n)) ≡ rowSize (hours l) → Off (status (g (row (hours l) l n)))
-      → reqtype (g (row (hours l) l n)) ≡ reqtype (row (hours l) l n) → related (g (row (hours l) l n)) ≡ related (row (hours l) l n)
-      → megawatts (hours l) h (g (row (hours l) l n)) availablePart ≡ megawatts (hours l) h (row (hours l) l n) availablePart
-      → megawatts (hours l) h (g (row (hours l) l n)) displacedPart ≡ megawatts (hours l) h (row (hours l) l n) displacedPart
-      → OutStays (view (hours l) h l out red) (view (hours l) h (onRow (hours l) n g l) out′ red′)
-      → RedStays (view (hours l) h l out red) (view (hours l) h (onRow (hours l) n g l) out′ red′)
-      → Step (view (hours l) h l out red) (view (hours l) h (onRow (hours l) n g l) out′ red′)
-  quiet-step g long after et er ea ed outs reds =
-      calm-step (placed f lt) g (record { long = long; type = et; status = refl; related = er; available = ea; displaced = ed }) before after out out′ red red′ outs reds
-
-  pub offered-step : (expires : ℕ) (w : List ℕ) (a : Action) → length (grantedAfter (hours l) w a (row (hours l) l n)) ≡ spanHours (row (hours l) l n) → Off (a .status)
-      → OutStays (view (hours l) h l out red) (view (hours l) h (onRow (hours l) n (offered (hours l) expires w a) l) out′ red′)
-      → RedStays (view (hours l) h l out red) (view (hours l) h (onRow (hours l) n (offered (hours l) expires w a) l) out′ red′)
-      → Step (view (hours l) h l out red) (view (hours l) h (onRow (hours l) n (offered (hours l) expires w a) l) out′ red′)
-  offered-step expires w a long after =
-      calm-step (placed f lt) (offered (hours l) expires w a) (offered-calm (placed f lt) h expires w a long) before after out out′ red red′
-
-  pub bidden-step : (w : List ℕ) (a : Action) → (comes a ≡ true → length (profile w a) ≡ spanHours (row (hours l) l n))
-      → OutStays (view (hours l) h l out red) (view (hours l) h (onRow (hours l) n (bidden (hours l) w a) l) out′ red′)
-      → RedStays (view (hours l) h l out red) (view (hours l) h (onRow (hours l) n (bidden (hours l) w a) l) out′ red′)
-      → Step (view (hours l) h l out red) (view (hours l) h (onRow (hours l) n (bidden (hours l) w a) l) out′ red′)
-  bidden-step w a long = calm-step (placed f lt) (bidden (hours l) w a) (bidden-calm (placed f lt) h w a long) before before out out′ red red′
+  pub offered-step : (expires : ℕ) (a : Action) (mw : List ℕ) → length mw ≡ spanHours (row (hours l) l n) → Off (a .status)
+      → OutStays (view (hours l) h l out red) (view (hours l) h (onRow (hours l) n (offered (hours l) expires a mw) l) out′ red′)
+      → RedStays (view (hours l) h l out red) (view (hours l) h (onRow (hours l) n (offered (hours l) expires a mw) l) out′ red′)
+      → Step (view (hours l) h l out red) (view (hours l) h (onRow (hours l) n (offered (hours l) expires a mw) l) out′ red′)
+  offered-step expires a mw long after =
+      calm-step (placed f lt) (offered (hours l) expires a mw) (offered-calm (placed f lt) h expires a mw long) before after out out′ red red′
 
   pub status-step : (s : ℕ) → Off s
       → OutStays (view (hours l) h l out red) (view (hours l) h (onRow (hours l) n (setStatus s) l) out′ red′)

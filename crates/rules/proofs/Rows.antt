@@ -1,14 +1,14 @@
 -- Laws of rows. `row-apart` is the one that is not linear.
-use mathlib.Core.Path.{_≡_, refl, sym, ap, subst, _∙_}
-use mathlib.Core.Logic.{_≢_, _⊎_, ⊎-elim, inl, inr}
+use mathlib.Core.Path.{_≡_, sym, ap, _∙_}
+use mathlib.Core.Logic.{_≢_, ⊎-elim, inl}
 use mathlib.Core.List.{List}
-use Prim.Native.Nat.{ℕ, suc, _+_, _-_, _*_, _≤_, _<_}
-use native.Mathlib.Nat.{mul-le-mul, mul-le-mul-right, suc-mul, add-assoc}
+use Prim.Native.Nat.{ℕ, _+_, _≤_, _<_}
+use native.Mathlib.Nat.{mul-le-mul, mul-le-mul-right, suc-mul}
 use native.Mathlib.Omega.{arith}
-use lib.ListN.{length, getD, take, drop, set}
+use lib.ListN.{length, getD, take, set}
 use lib.Seq.{drop-set-lt}
 use Rattle.words.specs.Lists.{part, splice}
-use Rattle.words.proofs.Laws.{lt-or-le, part-length, part-at, part-same, part-apart, splice-twice, splice-part, part-part, splice-length, splice-before, drop-splice}
+use Rattle.words.proofs.Laws.{lt-or-le, part-length, part-at, part-same, part-apart, splice-part, part-part, splice-length, splice-before, drop-splice}
 use Rattle.rules.specs.Numbers.{headWords, mostRows, mostHours}
 use Rattle.rules.specs.Layout.{rowBase, rowSize, row, onRow, Sized}
 
@@ -79,13 +79,6 @@ head-row H l i x n lt = ap (λ (r : List ℕ). take (rowSize H) r) (drop-set-lt 
 
 -- ---- row by row, and word by word: the two ways to say a write
 module _ {l : List ℕ} {R H n : ℕ} (s : Sized l R H) (h : n < R) where
-  -- two writes in one row are one
-  pub on-on : (f g : List ℕ → List ℕ) → length (f (row H l n)) ≡ rowSize H → length (g (f (row H l n))) ≡ rowSize H → onRow H n g (onRow H n f l) ≡ onRow H n (λ r. g (f r)) l
-  unfolding onRow
-  on-on f g ef eg =
-      ap (λ (r : List ℕ). splice (splice l (rowBase H n) (f (row H l n))) (rowBase H n) (g r)) (on-own s h f ef)
-      ∙ splice-twice l (rowBase H n) (f (row H l n)) (g (f (row H l n))) (ef ∙ sym eg) (omega (arith, eg, row-fits s h))
-
   -- a part of the row that is written is a part of the ledger that is
   pub on-splice : (k : ℕ) (v : List ℕ) → k + length v ≤ rowSize H → onRow H n (λ r. splice r k v) l ≡ splice l (rowBase H n + k) v
   unfolding onRow row

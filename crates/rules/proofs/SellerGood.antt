@@ -96,49 +96,51 @@ module _ {l : List ℕ} {t : Tally} (G : Good l t) (w : List ℕ) (a : Action) (
     offs : Off (status (namedRow (hours l) l a)) × Off (a .status)
     offs = move .others (λ z. omega (arith, z, offer-most a o)) (λ z. omega (arith, z, offer-most a o))
 
-    same : Same H r (offered H (clock l + window l) w a r)
+    abbrev mw : List ℕ
+    mw = grantedAfter H w a r
+
+    same : Same H r (offered H (clock l + window l) a mw r)
     same =
         let s = same-self F lt in
-        same-offered s (clock l + window l) (omega (arith, F .head .clock, F .head .window .1)) w a (Q .price) (P .status .0) (P .status .1) (fitting-granted s w a (Q .profile))
+        same-offered s (clock l + window l) (omega (arith, F .head .clock, F .head .window .1)) a (Q .price) (P .status .0) (P .status .1) (fitting-granted s w a (Q .profile))
 
-    long : length (grantedAfter H w a r) ≡ spanHours r
+    long : length mw ≡ spanHours r
     long = fitting-granted (same-self F lt) w a (Q .profile) .counted
 
     -- the row's write is made
-    offered-kept : Kept (onRow H n (offered H (clock l + window l) w a) l)
+    offered-kept : Kept (onRow H n (offered H (clock l + window l) a mw) l)
     offered-kept S answer A =
         let E = own-agrees G a (P .reference .0) (P .reference .1) w A later in
         let m = spanned G a (P .reference .0) (P .reference .1) in
-        let L = own-leaves F lt (offered H (clock l + window l) w a) (same .long) in
-        let now : status (row H (onRow H n (offered H (clock l + window l) w a) l) n) ≡ a .status = ap status (L .own) ∙ offered-calm (placed F lt) 0 (clock l + window l) w a long .status in
+        let L = own-leaves F lt (offered H (clock l + window l) a mw) (same .long) in
+        let now : status (row H (onRow H n (offered H (clock l + window l) a mw) l) n) ≡ a .status = ap status (L .own) ∙ offered-calm (placed F lt) 0 (clock l + window l) a mw long .status in
         let after : answer .after ≡ a .status = A .after ∙ now in
         stepped-good G a (P .reference .0) (P .reference .1) w A later S L (offered-agrees E m a w answer k o (Q .profile) (clock l + window l) after)
-        (λ h hlt. offered-step F lt (offs .0) hlt (outOf t h) (outOf (feed a w answer t) h) (redOf t h) (redOf (feed a w answer t) h) (clock l + window l) w a long (offs .1)
+        (λ h hlt. offered-step F lt (offs .0) hlt (outOf t h) (outOf (feed a w answer t) h) (redOf t h) (redOf (feed a w answer t) h) (clock l + window l) a mw long (offs .1)
         (record { out = λ j m. fed-quiet a w answer t (answer-counts A (P .reference .0)) later (λ z. offs .1 .0 (sym after ∙ z)) (inl (λ z. offs .0 .0 (sym (A .before) ∙ z))) five h j m })
         (record { red = λ m. fed-red a w answer t (answer-counts A (P .reference .0)) later five h m }))
 
     -- and the row goes on to 13
-    goes-kept : goesOn a r ≡ true → Kept (confirm H n (grantedAfter H w a r) (onRow H n (offered H (clock l + window l) w a) l))
+    goes-kept : goesOn a r ≡ true → Kept (confirm H n mw (onRow H n (offered H (clock l + window l) a mw) l))
     goes-kept g S answer A =
-        let mw : List ℕ = grantedAfter H w a r in
-        let q : List ℕ = offered H (clock l + window l) w a r in
+        let q : List ℕ = offered H (clock l + window l) a mw r in
         let C = confirm-passed H l n mw (has approved r) (Q .confirms g) in
         let E = own-agrees G a (P .reference .0) (P .reference .1) w A later in
         let m = spanned G a (P .reference .0) (P .reference .1) in
-        let Y = ready-on G lt (offs .0) (offered H (clock l + window l) w a) same (a .status) (λ h. offered-calm (placed F lt) h (clock l + window l) w a long) (offs .1) in
+        let Y = ready-on G lt (offs .0) (offered H (clock l + window l) a mw) same (a .status) (λ h. offered-calm (placed F lt) h (clock l + window l) a mw long) (offs .1) in
         let long1 : length mw ≡ spanHours q = omega (arith, long, same .start, same .stop) in
         let now = ready-status G lt Y mw long1 (record { long = same .long; fits = omega (arith, long, same .start, m .starts, m .stops) }) in
-        let u = unmoved-offered {r = namedRow (hours l) l a} (m .long) (clock l + window l) w a (omega (arith, long, m .starts, m .stops)) in
+        let u = unmoved-offered {r = namedRow (hours l) l a} (m .long) (clock l + window l) a mw (omega (arith, long, m .starts, m .stops)) in
         confirmed-good G a (P .reference .0) (P .reference .1) w A later five (offs .0 .0) now Y mw long1
-        (unconfirmed-stays (placed F lt) (offered H (clock l + window l) w a) u ∙ C .unconfirmed)
-        (short-stays (placed F lt) (offered H (clock l + window l) w a) u mw ∙ C .short) S
+        (unconfirmed-stays (placed F lt) (offered H (clock l + window l) a mw) u ∙ C .unconfirmed)
+        (short-stays (placed F lt) (offered H (clock l + window l) a mw) u mw ∙ C .short) S
         (either-agrees mw q (offered-confirms E m a w answer k o (Q .profile) (clock l + window l) (goes-on a r g) (start q) (offered-start E m a w answer k o (Q .profile) (clock l + window l) (goes-on a r g)) (A .after ∙ now)))
 
-    offer-kept : Kept (offerAfter H l w a)
+    offer-kept : Kept (offerAfter H l a mw)
     unfolding offerAfter
     offer-kept = go (goesOn a r) refl
       where
-        go : (b : Bool) → goesOn a r ≡ b → Kept (when b (confirm H n (grantedAfter H w a r)) (onRow H n (offered H (clock l + window l) w a) l))
+        go : (b : Bool) → goesOn a r ≡ b → Kept (when b (confirm H n mw) (onRow H n (offered H (clock l + window l) a mw) l))
         go true g = goes-kept g
         go false g = offered-kept
 
@@ -217,7 +219,7 @@ module _ {l : List ℕ} {t : Tally} (G : Good l t) (w : List ℕ) (a : Action) (
   unfolding sellerAfter
   seller-kept = go (offers a) refl
     where
-      go : (b : Bool) → offers a ≡ b → Kept (pick b (offerAfter H l w a) (otherAfter H l a))
+      go : (b : Bool) → offers a ≡ b → Kept (pick b (offerAfter H l a (grantedAfter H w a r)) (otherAfter H l a))
       go true o = offer-kept o
       go false o = other-kept o
 

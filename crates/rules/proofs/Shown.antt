@@ -14,7 +14,7 @@ use Rattle.rules.specs.Layout.{rowSize, reqtype, status, related, start,
 use Rattle.rules.specs.Megawatts.{grant, takeFrom, displacedRow, annulledRow}
 use Rattle.rules.specs.Confirming.{held, emptied}
 use Rattle.rules.specs.Checks.{profile, comes}
-use Rattle.rules.specs.SellerStatus.{accepts, grantedAfter, offered}
+use Rattle.rules.specs.SellerStatus.{accepts, offered}
 use Rattle.rules.specs.CustomerStatus.{bidden}
 use Rattle.rules.specs.declared.Action.{Action}
 use Rattle.rules.proofs.Spans.{Spanned, span-set, span-length, put-word, put-spanned, put-other, put-own, put-hour, add-word, add-spanned, add-other, add-hour, less-word, less-spanned, less-other, less-hour, clear-word, clear-spanned, clear-other, clear-hour, flag-raised, approved-kept, offer-kept}
@@ -227,23 +227,23 @@ module _ {H s t : ℕ} {r : List ℕ} {ty st ref : ℕ} {req gr : List ℕ} {b :
       (shown-requested (shown-word S 8 (a .price) (lit≤ tt) (lit< tt)) (profile w a) e))
 
   -- the seller's offer, which grants or does not
-  pub shown-offered : (expires : ℕ) (w : List ℕ) (a : Action) → (comes a || accepts a) ≡ false → Shown H s t (offered H expires w a r) ty (a .status) ref req gr b
+  pub shown-offered : (expires : ℕ) (a : Action) (mw : List ℕ) → (comes a || accepts a) ≡ false → Shown H s t (offered H expires a mw r) ty (a .status) ref req gr b
   unfolding offered
-  shown-offered expires w a c =
+  shown-offered expires a mw c =
       shown-status
       (shown-word
-      (subst (λ (x : Bool). Shown H s t (when x (grant H (start r) (grantedAfter H w a r)) (raise offerGiven (set r 9 (a .price)))) ty st ref req gr b) (sym c)
+      (subst (λ (x : Bool). Shown H s t (when x (grant H (start r) mw) (raise offerGiven (set r 9 (a .price)))) ty st ref req gr b) (sym c)
       (shown-offer (shown-word S 9 (a .price) (lit≤ tt) (lit< tt))))
       10 expires (lit≤ tt) (lit< tt))
       (a .status)
 
-  pub shown-granted : (expires : ℕ) (w : List ℕ) (a : Action) → (comes a || accepts a) ≡ true → length (grantedAfter H w a r) ≡ t - s → Shown H s t (offered H expires w a r) ty (a .status) ref req (grantedAfter H w a r) true
+  pub shown-granted : (expires : ℕ) (a : Action) (mw : List ℕ) → (comes a || accepts a) ≡ true → length mw ≡ t - s → Shown H s t (offered H expires a mw r) ty (a .status) ref req mw true
   unfolding offered
-  shown-granted expires w a c e =
+  shown-granted expires a mw c e =
       shown-status
       (shown-word
-      (subst (λ (x : Bool). Shown H s t (when x (grant H (start r) (grantedAfter H w a r)) (raise offerGiven (set r 9 (a .price)))) ty st ref req (grantedAfter H w a r) true) (sym c)
-      (subst (λ (i : ℕ). Shown H s t (grant H i (grantedAfter H w a r) (raise offerGiven (set r 9 (a .price)))) ty st ref req (grantedAfter H w a r) true) (sym (S .start))
-      (shown-grant (shown-offer (shown-word S 9 (a .price) (lit≤ tt) (lit< tt))) (grantedAfter H w a r) e)))
+      (subst (λ (x : Bool). Shown H s t (when x (grant H (start r) mw) (raise offerGiven (set r 9 (a .price)))) ty st ref req mw true) (sym c)
+      (subst (λ (i : ℕ). Shown H s t (grant H i mw (raise offerGiven (set r 9 (a .price)))) ty st ref req mw true) (sym (S .start))
+      (shown-grant (shown-offer (shown-word S 9 (a .price) (lit≤ tt) (lit< tt))) mw e)))
       10 expires (lit≤ tt) (lit< tt))
       (a .status)

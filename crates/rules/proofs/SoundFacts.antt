@@ -10,13 +10,14 @@ use native.Mathlib.Omega.{arith}
 use lib.Dec.{leb, eqb}
 use lib.ListN.{length, getD, drop, length-take, List·getD-eq-default}
 use lib.Seq.{getD-take, getD-drop}
-use borrow.Author.Tests.{leb-true, ltb-true, eqb-true, eqb-false, le-leb, lt-leb, lt-ltb, eq-eqb, ne-eqb}
+use borrow.Author.Tests.{leb-true, ltb-true, eqb-true, eqb-false, le-leb, lt-ltb, eq-eqb, ne-eqb}
 use Rattle.words.specs.Lists.{part, allBelow, within, zeros}
 use Rattle.words.proofs.Laws.{lt-or-le, and-left, and-right, all-at, all-below, within-at, within-all, zeros-at, zeros-all}
 use Rattle.rules.specs.Numbers.{rowWords, usedWords, profiles, mostRows, mostHours, mostEntity, mostWindow, mostPrice, mostMegawatts, mostType, mostStatus, mostFlags, endHour, endSecond, endLimit, entity, NONFIRM-REDIRECT, RELINQUISH}
 use Rattle.rules.specs.Layout.{rows, hours, provider, window, base, clock, used, headEnd, rowBase, rowSize, row, reqtype, status, customer, seller, related, start, stop, flags, bid, offer, limit, relatedRow, hourAt, hoursOf, spanHours, span, Sized}
 use Rattle.rules.specs.Create.{goodNumbers}
-use Rattle.rules.specs.Sound.{original, upward, relates, inside, soundHead, soundWords, soundProfile, soundRelated, soundRow, unusedZero, sound}
+use Rattle.rules.specs.Sound.{upward, relates, inside, soundHead, soundWords, soundProfile, soundRelated, soundRow, unusedZero, sound}
+use Rattle.rules.proofs.Types.{original-type, derived-type}
 
 pub record SoundHead (l : List ℕ) : Type 0 where
   pub long : length l ≡ rowBase (hours l) (rows l)
@@ -275,23 +276,15 @@ facts-hours H r w s = all-below (λ p. soundProfile H r p) profiles (λ p lt. fa
 
 -- ---- the related row
 module _ (H : ℕ) (l : List ℕ) (n : ℕ) where
-  is-original : (t : ℕ) → 1 ≤ t → t ≤ 2 → original t ≡ true
-  unfolding original
-  is-original t a b = ranged 1 t 2 (a, b)
-
-  no-original : (t : ℕ) → 3 ≤ t → original t ≡ false
-  unfolding original
-  no-original t a = let b : 1 ≤ t = omega (arith, a) in simp (le-leb 1 t b, lt-leb t 2 a)
-
   related-none : SoundWords H (row H l n) → soundRelated H l n ≡ true → reqtype (row H l n) ≤ 2 → related (row H l n) ≡ 0
   unfolding soundRelated
-  related-none w e lt = eqb-true _ _ (simp (is-original (reqtype (row H l n)) (w .type-least) lt) at e)
+  related-none w e lt = eqb-true _ _ (simp (original-type (reqtype (row H l n)) (w .type-least) lt) at e)
 
   related-some : soundRelated H l n ≡ true → 3 ≤ reqtype (row H l n)
       → (upward H l n ≡ true) × (relates (reqtype (row H l n)) (reqtype (row H l (relatedRow H l n))) ≡ true) × (inside (start (row H l n)) (stop (row H l n)) (row H l (relatedRow H l n)) ≡ true)
   unfolding soundRelated
   related-some e lt =
-      let a = both _ _ (simp (no-original (reqtype (row H l n)) lt) at e) in
+      let a = both _ _ (simp (derived-type (reqtype (row H l n)) lt) at e) in
       let b = both _ _ (a .1) in
       (a .0, b .0, b .1)
 
@@ -337,9 +330,9 @@ facts-relation : (H : ℕ) (l : List ℕ) (n : ℕ) → SoundWords H (row H l n)
 unfolding soundRelated upward inside
 facts-relation H l n w s =
     ⊎-elim
-    (λ t. simp (is-original H l n (reqtype (row H l n)) (w .type-least) (omega (arith, t))) (eq-eqb _ _ (s .originals (omega (arith, t)))))
+    (λ t. simp (original-type (reqtype (row H l n)) (w .type-least) (omega (arith, t))) (eq-eqb _ _ (s .originals (omega (arith, t)))))
     (λ t.
-    simp (no-original H l n (reqtype (row H l n)) t)
+    simp (derived-type (reqtype (row H l n)) t)
     (join _ _ (ranged 1 (related (row H l n)) n (s .up t))
     (join _ _
     (facts-relates (reqtype (row H l n)) (reqtype (row H l (relatedRow H l n))) (s .redirect) (s .others t) (ℕ-discrete (reqtype (row H l n)) RELINQUISH))

@@ -19,19 +19,20 @@ use Rattle.rules.specs.Sound.{sound}
 use Rattle.rules.specs.Megawatts.{inForce, carriesOver}
 use Rattle.rules.specs.Confirming.{confirm}
 use Rattle.rules.specs.Checks.{named, namedRow, profile, waitsAt}
-use Rattle.rules.specs.SellerStatus.{offers, goesOn, offered, annulsConfirmed, offerAfter, otherAfter, sellerAfter}
+use Rattle.rules.specs.SellerStatus.{offers, grantedAfter, goesOn, offered, annulsConfirmed, offerAfter, otherAfter, sellerAfter}
 use Rattle.rules.specs.CustomerStatus.{bids, confirms, bidden, bidAfter, customerAfter}
 use Rattle.rules.specs.Approve.{approveAfter}
 use Rattle.rules.specs.Reduce.{reduceAfter}
 use Rattle.rules.specs.Lapse.{lapseAfter}
 use Rattle.rules.specs.Clock.{clockAfter}
-use Rattle.rules.specs.Act.{kindNumber, kindAfter, commonNumber, lastNumber, number, refused, accepted, step}
+use Rattle.rules.specs.Act.{kindNumber, kindAfter, commonNumber, lastNumber, soundNumber, number, refused, accepted, step}
 use Rattle.rules.specs.declared.Action.{Action}
 use Rattle.rules.proofs.Rows.{row-least, head-row}
 use Rattle.rules.proofs.SoundFacts.{SoundWords, SoundLedger, sound-facts, facts-sound}
 use Rattle.rules.proofs.Formed.{FormedHours, Formed, formed}
 use Rattle.rules.proofs.Passed.{gives-none, or-else-none, profile-length, SellerPassed, CustomerPassed, ApprovePassed, ReducePassed, LapsePassed, ClockPassed, submit-passed, seller-status-passed, customer-status-passed, approve-passed, reduce-passed, lapse-passed, clock-passed}
-use Rattle.rules.proofs.Effects.{Spanned, row-spanned, span-room}
+use Rattle.rules.proofs.Spans.{Spanned, span-room}
+use Rattle.rules.proofs.Effects.{row-spanned}
 use Rattle.rules.proofs.Submitted.{submit-next}
 use Rattle.rules.proofs.Kept.{Same, Next, Shaped, relation-shaped, formed-by, head-kept, same-self, same-status, same-approved, same-offered, same-bidden, fitting-profile, fitting-force, fitting-granted, next-own, next-displace, next-annul, next-reduce, next-confirm, next-then-confirm, next-then-status}
 
@@ -49,15 +50,16 @@ module _ {l : List ℕ} (F : Formed l) (w : List ℕ) (a : Action) (P : SellerPa
   seller-row : named a < used l
   seller-row = issued-row l a (P .reference)
 
-  offer-next : offers a ≡ true → Next l (offerAfter (hours l) l w a)
+  offer-next : offers a ≡ true → Next l (offerAfter (hours l) l a (grantedAfter (hours l) w a (namedRow (hours l) l a)))
   unfolding offerAfter
   offer-next q =
+      let mw : List ℕ = grantedAfter (hours l) w a (namedRow (hours l) l a) in
       let o = same-self F seller-row in
       let f = fitting-granted o w a (P .offer q .profile) in
-      let s = same-offered o (clock l + window l) (omega (arith, F .head .clock, F .head .window .1)) w a (P .offer q .price) (P .status .0) (P .status .1) f in
+      let s = same-offered o (clock l + window l) (omega (arith, F .head .clock, F .head .window .1)) a (P .offer q .price) (P .status .0) (P .status .1) f in
       next-pick (goesOn a (namedRow (hours l) l a))
-      (λ _. next-then-confirm F seller-row (offered (hours l) (clock l + window l) w a) s f)
-      (λ _. next-own F seller-row (offered (hours l) (clock l + window l) w a) s)
+      (λ _. next-then-confirm F seller-row (offered (hours l) (clock l + window l) a mw) s f)
+      (λ _. next-own F seller-row (offered (hours l) (clock l + window l) a mw) s)
 
   other-next : Next l (otherAfter (hours l) l a)
   unfolding otherAfter
@@ -232,7 +234,7 @@ last-passed H l e = gives-none (carriesOver H l) _ _ e .0
 
 -- an accepted action's checks, one group after the other
 pub number-passed : (l w : List ℕ) (a : Action) → number true l w a ≡ 0 → (commonNumber true a ≡ 0) × (kindNumber (hours l) l w a ≡ 0) × (carriesOver (hours l) (kindAfter (hours l) l w a) ≡ false)
-unfolding number
+unfolding number soundNumber
 number-passed l w a e =
     let c = or-else-none (commonNumber true a) _ e in
     let k = or-else-none (kindNumber (hours l) l w a) _ (c .1) in

@@ -41,18 +41,18 @@ span-set H p r k x lt s t =
     ∙ ap (λ (v : List ℕ). take (spanHours r) v) (drop-set-lt (hourAt H p (start r)) r k x (omega arith))
 
 module _ {H : ℕ} {r : List ℕ} (m : Spanned H r) where
-  fits : (p : ℕ) → p < profiles → hourAt H p (start r) + spanHours r ≤ length r
-  fits p lt = omega (arith, hour-in H lt)
+  pub span-room : {p : ℕ} → p < profiles → hourAt H p (start r) + spanHours r ≤ length r
+  span-room lt = omega (arith, hour-in H lt)
 
   pub span-length : (p : ℕ) → p < profiles → length (span H p r) ≡ spanHours r
   unfolding span
-  span-length p lt = part-length r (hourAt H p (start r)) (spanHours r) (fits p lt)
+  span-length p lt = part-length r (hourAt H p (start r)) (spanHours r) (span-room lt)
 
   pub span-at : (p : ℕ) → p < profiles → (k : ℕ) → k < spanHours r → getD (span H p r) k 0 ≡ getD r (hourAt H p (start r + k)) 0
   unfolding span
   span-at p lt k klt =
       let e : hourAt H p (start r) + k ≡ hourAt H p (start r + k) = omega arith in
-      part-at r (hourAt H p (start r)) (spanHours r) (fits p lt) k klt ∙ ap (λ (i : ℕ). getD r i 0) e
+      part-at r (hourAt H p (start r)) (spanHours r) (span-room lt) k klt ∙ ap (λ (i : ℕ). getD r i 0) e
 
   -- the words of a profile by hour say its span
   pub span-is : (p : ℕ) → p < profiles → (v : List ℕ) → length v ≡ spanHours r → ((k : ℕ) → k < spanHours r → getD r (hourAt H p (start r + k)) 0 ≡ getD v k 0) → span H p r ≡ v

@@ -14,7 +14,7 @@ use Rattle.words.specs.Lists.{covered}
 use Rattle.words.proofs.Laws.{lt-or-le}
 use Rattle.rules.specs.Pick.{pick}
 use Rattle.rules.specs.Numbers.{grantedPart, availablePart, displacedPart, RELINQUISH}
-use Rattle.rules.specs.Layout.{hours, used, row, onRow, reqtype, status, related, start, relatedRow, spanHours, hoursOf, standing}
+use Rattle.rules.specs.Layout.{used, row, onRow, reqtype, status, related, start, relatedRow, spanHours, hoursOf, standing}
 use Rattle.rules.specs.Sound.{original}
 use Rattle.rules.specs.Moves.{isConfirmed}
 use Rattle.rules.specs.Megawatts.{takeFrom, returnsTo, giveBack}
@@ -25,18 +25,18 @@ use Rattle.rules.proofs.Seen.{Seen, at}
 use Rattle.rules.proofs.Writes.{words, megawatts, seen-taken, seen-given, seen-held, seen-emptied, covered-hour, returned, returned-granted, word-of, hour-of}
 use Rattle.rules.proofs.Turned.{Turned, turned, kept-word, still}
 use Rattle.rules.proofs.View.{view}
-use Rattle.rules.proofs.Formed.{Formed}
-use Rattle.rules.proofs.Placed.{Placed, placed, is-original, no-original, above-row, over-row, room-for, zero-for}
+use Rattle.rules.proofs.Types.{original-type, derived-type}
+use Rattle.rules.proofs.Placed.{Placed, above-row, over-row, room-for, zero-for}
 
 -- ---- by the row's type
 module _ (H n : ℕ) (mw l : List ℕ) where
   is-top : 1 ≤ reqtype (row H l n) → reqtype (row H l n) ≤ 2 → confirmOriginal H n mw l ≡ confirm H n mw l
   unfolding confirm
-  is-top a b = sym (ap (λ (x : Bool). pick x (confirmOriginal H n mw l) (pick (eqb (reqtype (row H l n)) RELINQUISH) (confirmRelinquish H n mw l) (confirmDerived H n mw l))) (is-original (reqtype (row H l n)) a b))
+  is-top a b = sym (ap (λ (x : Bool). pick x (confirmOriginal H n mw l) (pick (eqb (reqtype (row H l n)) RELINQUISH) (confirmRelinquish H n mw l) (confirmDerived H n mw l))) (original-type (reqtype (row H l n)) a b))
 
   type-past : 3 ≤ reqtype (row H l n) → pick (eqb (reqtype (row H l n)) RELINQUISH) (confirmRelinquish H n mw l) (confirmDerived H n mw l) ≡ confirm H n mw l
   unfolding confirm
-  type-past t = sym (ap (λ (x : Bool). pick x (confirmOriginal H n mw l) (pick (eqb (reqtype (row H l n)) RELINQUISH) (confirmRelinquish H n mw l) (confirmDerived H n mw l))) (no-original (reqtype (row H l n)) t))
+  type-past t = sym (ap (λ (x : Bool). pick x (confirmOriginal H n mw l) (pick (eqb (reqtype (row H l n)) RELINQUISH) (confirmRelinquish H n mw l) (confirmDerived H n mw l))) (derived-type (reqtype (row H l n)) t))
 
   is-child : 3 ≤ reqtype (row H l n) → reqtype (row H l n) ≢ RELINQUISH → confirmDerived H n mw l ≡ confirm H n mw l
   is-child t ne =
@@ -52,11 +52,11 @@ others-pass b c h e = not-false c (sym (ap (λ (x : Bool). not x && not c) h) �
 
 confirms : (H : ℕ) (l : List ℕ) (n : ℕ) → unconfirmed H l n ≡ false → 3 ≤ reqtype (row H l n) → status (row H l (relatedRow H l n)) ≡ 13
 unfolding unconfirmed isConfirmed
-confirms H l n e t = eqb-true _ _ (others-pass (original (reqtype (row H l n))) _ (no-original (reqtype (row H l n)) t) e)
+confirms H l n e t = eqb-true _ _ (others-pass (original (reqtype (row H l n))) _ (derived-type (reqtype (row H l n)) t) e)
 
 covers : (H : ℕ) (l : List ℕ) (n : ℕ) (mw : List ℕ) → short H l n mw ≡ false → 3 ≤ reqtype (row H l n) → covered mw (hoursOf H availablePart (start (row H l n)) (length mw) (row H l (relatedRow H l n))) ≡ true
 unfolding short drawnFrom
-covers H l n mw e t = others-pass (original (reqtype (row H l n))) _ (no-original (reqtype (row H l n)) t) e
+covers H l n mw e t = others-pass (original (reqtype (row H l n))) _ (derived-type (reqtype (row H l n)) t) e
 
 -- ---- the three ways to confirm
 module _ {R H : ℕ} {l : List ℕ} {n : ℕ} (o : Placed R H l n) (mw : List ℕ) (long : length mw ≡ spanHours (row H l n)) {h : ℕ} (hlt : h < H) where
@@ -259,27 +259,3 @@ module _ {R H : ℕ} {l : List ℕ} {n : ℕ} (o : Placed R H l n) (before : Off
           subst Goal (is-give H n mw l e) (λ a. give n (relatedRow H l n) (relatedRow H l (relatedRow H l n)) (give-of o mw long hlt out out′ red red′ before ok ample e (a .givers e) (a .reds)))
       go (inr t) (no ne) =
           subst Goal (is-child H n mw l t ne) (λ a. child n (relatedRow H l n) (child-of o mw long hlt out out′ red red′ before ok ample t ne (a .children t ne) (a .reds)))
-
--- granted of the row is then what was granted
-pub granted-at : {R H : ℕ} {l : List ℕ} {n : ℕ} → Placed R H l n → (mw : List ℕ) → length mw ≡ spanHours (row H l n) → {h : ℕ} → h < H
-    → megawatts H h (row H (confirm H n mw l) n) grantedPart ≡ standing (start (row H l n)) mw h
-granted-at {R} {H} {l} {n} o mw long {h} hlt = go (lt-or-le (reqtype (row H l n)) 3) (ℕ-discrete (reqtype (row H l n)) RELINQUISH)
-  where
-    Goal : List ℕ → Type 0
-    Goal m = megawatts H h (row H m n) grantedPart ≡ standing (start (row H l n)) mw h
-
-    go : (reqtype (row H l n) < 3) ⊎ (3 ≤ reqtype (row H l n)) → Dec (reqtype (row H l n) ≡ RELINQUISH) → Goal (confirm H n mw l)
-    go (inl t) d = subst Goal (is-top H n mw l (o .type-least) (omega (arith, t))) (hour-of (top-turned o mw long hlt .own) (holds o mw long hlt .1) grantedPart (lit< tt))
-    go (inr t) (yes e) = subst Goal (is-give H n mw l e) (hour-of (give-turned o mw long hlt e .own) (empties o mw long hlt .1) grantedPart (lit< tt))
-    go (inr t) (no ne) = subst Goal (is-child H n mw l t ne) (hour-of (child-turned o mw long hlt t .own) (holds o mw long hlt .1) grantedPart (lit< tt))
-
--- ---- of a formed ledger
-pub confirm-step : {l : List ℕ} {n : ℕ} → Formed l → n < used l → Off (status (row (hours l) l n)) → (mw : List ℕ) → length mw ≡ spanHours (row (hours l) l n)
-    → unconfirmed (hours l) l n ≡ false → short (hours l) l n mw ≡ false → {h : ℕ} → h < hours l → (out out′ : ℕ → ℕ → ℤ) (red red′ : ℕ → ℤ)
-    → Tallied (view (hours l) h l out red) (view (hours l) h (confirm (hours l) n mw l) out′ red′) n (relatedRow (hours l) l n)
-    → Step (view (hours l) h l out red) (view (hours l) h (confirm (hours l) n mw l) out′ red′)
-confirm-step f lt before mw long ok ample hlt = confirm-at (placed f lt) before mw long ok ample hlt
-
-pub confirm-granted : {l : List ℕ} {n : ℕ} → Formed l → n < used l → (mw : List ℕ) → length mw ≡ spanHours (row (hours l) l n) → {h : ℕ} → h < hours l
-    → megawatts (hours l) h (row (hours l) (confirm (hours l) n mw l) n) grantedPart ≡ standing (start (row (hours l) l n)) mw h
-confirm-granted f lt mw long hlt = granted-at (placed f lt) mw long hlt

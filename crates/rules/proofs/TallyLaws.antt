@@ -22,7 +22,7 @@ use Rattle.rules.specs.Tally.{Entry, Tally, reducedSum, redirectedSum, r
 use Rattle.rules.specs.declared.Action.{Action}
 use Rattle.rules.specs.declared.Answer.{Answer}
 use Rattle.rules.proofs.View.{outOf, redOf}
-use Rattle.rules.proofs.Passed.{original-type, derived-type}
+use Rattle.rules.proofs.Types.{original-type, derived-type}
 
 -- ---- entries
 pub put-same : (r : ℕ) (e : Entry) (t : Tally) → put r e t r ≡ e

@@ -14,7 +14,7 @@ use Rattle.rules.specs.Numbers.{rowWords, grantedPart, availablePart, di
 use Rattle.rules.specs.Layout.{rowSize, row, onRow, rowOf, relatedRow, Sized, reqtype, related, start, stop, flags, flagged, raise, setStatus, hourAt, setHours}
 use Rattle.rules.specs.Megawatts.{grant}
 use Rattle.rules.specs.Checks.{profile, comes}
-use Rattle.rules.specs.SellerStatus.{accepts, grantedAfter, offered}
+use Rattle.rules.specs.SellerStatus.{accepts, offered}
 use Rattle.rules.specs.CustomerStatus.{bidden}
 use Rattle.rules.specs.declared.Action.{Action}
 use Rattle.rules.proofs.Turned.{Turned, turned, kept-word}
@@ -109,12 +109,12 @@ unmoved-grant {H} {r} e s mw fits =
     unmoved-then q (unmoved-raise (q .long) grantedGiven)
 
 -- the seller's moves to 6, 7, 10, 11
-pub unmoved-offered : {H : ℕ} {r : List ℕ} → length r ≡ rowSize H → (expires : ℕ) (w : List ℕ) (a : Action) → start r + length (grantedAfter H w a r) ≤ H → Unmoved H r (offered H expires w a r)
+pub unmoved-offered : {H : ℕ} {r : List ℕ} → length r ≡ rowSize H → (expires : ℕ) (a : Action) (mw : List ℕ) → start r + length mw ≤ H → Unmoved H r (offered H expires a mw r)
 unfolding offered
-unmoved-offered {H} {r} e expires w a fits =
+unmoved-offered {H} {r} e expires a mw fits =
     let q1 = unmoved-later {H = H} {r = r} e 9 (a .price) (lit< tt) (lit< tt) in
     let q2 = unmoved-then q1 (unmoved-raise (q1 .long) offerGiven) in
-    let q3 = unmoved-then q2 (unmoved-when (comes a || accepts a) (grant H (start r) (grantedAfter H w a r)) (q2 .long) (λ z. unmoved-grant (q2 .long) (start r) (grantedAfter H w a r) fits)) in
+    let q3 = unmoved-then q2 (unmoved-when (comes a || accepts a) (grant H (start r) mw) (q2 .long) (λ z. unmoved-grant (q2 .long) (start r) mw fits)) in
     let q4 = unmoved-then q3 (unmoved-later (q3 .long) 10 expires (lit< tt) (lit< tt)) in
     unmoved-then q4 (unmoved-status (q4 .long) (a .status))
 

@@ -48,10 +48,13 @@ commonNumber isSound a =
 unfoldable pub lastNumber : ℕ → List ℕ → ℕ
 lastNumber H next = 1 onlyIf carriesOver H next
 
+-- on a sound ledger: the checks of the kind, and the one that is judged last
+unfoldable pub soundNumber : ℕ → List ℕ → List ℕ → Action → ℕ
+soundNumber H l w a = kindNumber H l w a orElse lastNumber H (kindAfter H l w a)
+
 -- first that applies, first given
 unfoldable pub number : Bool → List ℕ → List ℕ → Action → ℕ
-number isSound l w a =
-    commonNumber isSound a orElse kindNumber (hours l) l w a orElse lastNumber (hours l) (kindAfter (hours l) l w a)
+number isSound l w a = commonNumber isSound a orElse soundNumber (hours l) l w a
 
 -- Refused: the number and four zeros
 unfoldable pub refusal : ℕ → Answer
@@ -64,20 +67,23 @@ subject l a = pick (eqb (a .kind) 1) (used l + 1) (a .reference)
 unfoldable pub statusBefore : ℕ → List ℕ → Action → ℕ
 statusBefore H l a = pick (eqb (a .kind) 1) 0 (status (namedRow H l a))
 
--- MW-hours moved as a row went from a status to another: granted of a row confirmed or annulled from 13, else what was displaced, else 0
-unfoldable pub movedBetween : ℕ → ℕ → ℕ → List ℕ → List ℕ → ℕ
-movedBetween H old new r next =
+-- MW-hours moved as a row went from a status to another: granted of a row confirmed or annulled from 13, else what was displaced, else 0. held is its available before, next the row after
+unfoldable pub movedBetween : ℕ → ℕ → ℕ → ℕ → List ℕ → ℕ
+movedBetween H old new held next =
     pick (not (eqb old CONFIRMED) && eqb new CONFIRMED) (total (granted H next)) (
     pick (eqb old CONFIRMED && eqb new ANNULLED) (total (granted H next)) (
-    pick (eqb old CONFIRMED && eqb new DISPLACED) (total (available H r))
+    pick (eqb old CONFIRMED && eqb new DISPLACED) held
     0))
 
 -- or what was reduced
+unfoldable pub movedBy : ℕ → List ℕ → Action → ℕ → ℕ → ℕ → List ℕ → ℕ
+movedBy H w a old new held next = pick (eqb (a .kind) 5) (total (profile w a)) (movedBetween H old new held next)
+
+-- of the row that the action is about
 unfoldable pub megawattHours : ℕ → List ℕ → List ℕ → Action → List ℕ → ℕ
 megawattHours H l w a next =
     let n = rowOf (subject l a) in
-    pick (eqb (a .kind) 5) (total (profile w a))
-    (movedBetween H (statusBefore H l a) (status (row H next n)) (row H l n) (row H next n))
+    movedBy H w a (statusBefore H l a) (status (row H next n)) (total (available H (row H l n))) (row H next n)
 
 -- Accepted: 0, reference, status before, status after, MW-hours moved
 unfoldable pub acceptance : ℕ → List ℕ → List ℕ → Action → List ℕ → Answer

@@ -1,4 +1,4 @@
--- 2 Seller status. r is the row that the action names.
+-- 2 Seller status. r is the row that the action names, mw what is granted after the move.
 use mathlib.Core.Bool.{Bool, _&&_, _||_, not}
 use mathlib.Core.List.{List, [], _∷_}
 use Prim.Native.Nat.{ℕ, _+_}
@@ -39,25 +39,26 @@ unfoldable pub grantedAfter : ℕ → List ℕ → Action → List ℕ → List 
 grantedAfter H w a r = pick (comes a) (profile w a) (inForce H r)
 
 -- 12: granted over requested in an hour (6, 7), or offer or granted unequal to bid or requested (10, 11)
-unfoldable pub unfitOffer : ℕ → List ℕ → Action → List ℕ → Bool
-unfitOffer H w a r =
-    pick (counters a) (not (covered (grantedAfter H w a r) (requested H r)))
-    (not (eqb (a .price) (bid r) && equal (grantedAfter H w a r) (requested H r)))
+unfoldable pub unfitOffer : ℕ → Action → List ℕ → List ℕ → Bool
+unfitOffer H a mw r =
+    pick (counters a) (not (covered mw (requested H r)))
+    (not (eqb (a .price) (bid r) && equal mw (requested H r)))
 
 -- a preconfirmed row moved to 10 goes on to 13; types 6 and 7 stay at 10 until approved
 unfoldable pub goesOn : Action → List ℕ → Bool
 goesOn a r = eqb (a .status) ACCEPTED && (has preconfirmed r && (not (transfer (reqtype r)) || has approved r))
 
-unfoldable pub offerConfirmNumber : ℕ → List ℕ → List ℕ → Action → ℕ
-offerConfirmNumber H l w a =
-    confirmNumber H l (named a) (grantedAfter H w a (namedRow H l a)) (has approved (namedRow H l a))
+-- 12; then, if it confirms, as confirming
+unfoldable pub fitNumber : ℕ → List ℕ → Action → List ℕ → ℕ
+fitNumber H l a mw =
+    unfitOffer H a mw (namedRow H l a) gives 12 else
+    (confirmNumber H l (named a) mw (has approved (namedRow H l a)) onlyIf goesOn a (namedRow H l a))
 
 unfoldable pub offerNumber : ℕ → List ℕ → List ℕ → Action → ℕ
 offerNumber H l w a =
     badIfComes w a (namedRow H l a) gives 7 else
     badPrice a gives 12 else
-    unfitOffer H w a (namedRow H l a) gives 12 else
-    (offerConfirmNumber H l w a onlyIf goesOn a (namedRow H l a))
+    fitNumber H l a (grantedAfter H w a (namedRow H l a))
 
 -- 15: annulling a confirmed row whose available differs from granted
 unfoldable pub annulsConfirmed : Action → List ℕ → Bool
@@ -77,17 +78,17 @@ sellerNumber H l w a =
     0
 
 -- Moves to 6, 7, 10, 11 set offer, replace granted if a profile comes, and set limit = now + window; to 10, 11 with granted never given copies requested into it
-unfoldable pub offered : ℕ → ℕ → List ℕ → Action → List ℕ → List ℕ
-offered H expires w a r =
+unfoldable pub offered : ℕ → ℕ → Action → List ℕ → List ℕ → List ℕ
+offered H expires a mw r =
     r then setOffer (a .price) then raise offerGiven
-    then when (comes a || accepts a) (grant H (start r) (grantedAfter H w a r))
+    then when (comes a || accepts a) (grant H (start r) mw)
     then setLimit expires
     then setStatus (a .status)
 
-unfoldable pub offerAfter : ℕ → List ℕ → List ℕ → Action → List ℕ
-offerAfter H l w a =
-    l then onRow H (named a) (offered H (clock l + window l) w a)
-    then when (goesOn a (namedRow H l a)) (confirm H (named a) (grantedAfter H w a (namedRow H l a)))
+unfoldable pub offerAfter : ℕ → List ℕ → Action → List ℕ → List ℕ
+offerAfter H l a mw =
+    l then onRow H (named a) (offered H (clock l + window l) a mw)
+    then when (goesOn a (namedRow H l a)) (confirm H (named a) mw)
 
 unfoldable pub otherAfter : ℕ → List ℕ → Action → List ℕ
 otherAfter H l a =
@@ -96,4 +97,4 @@ otherAfter H l a =
     (onRow H (named a) (setStatus (a .status)) l))
 
 unfoldable pub sellerAfter : ℕ → List ℕ → List ℕ → Action → List ℕ
-sellerAfter H l w a = pick (offers a) (offerAfter H l w a) (otherAfter H l a)
+sellerAfter H l w a = pick (offers a) (offerAfter H l a (grantedAfter H w a (namedRow H l a))) (otherAfter H l a)

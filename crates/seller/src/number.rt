@@ -4,14 +4,15 @@ ghost use mathlib.Core.Bool.{_&&_, _||_, not, false};
 ghost use lib.Dec.{eqb};
 ghost use lib.ListN.{length};
 ghost use Rattle.words.specs.Lists.{covered, equal};
+ghost use Rattle.rules.specs.Pick.{_onlyIf_};
 ghost use Rattle.rules.specs.Numbers.{preconfirmed, approved, ANNULLED as annulled, RESALE as resale};
 ghost use Rattle.rules.specs.Layout.{provider, row, reqtype, has, spanHours, requested};
 ghost use Rattle.rules.specs.Sound.{transfer};
-ghost use Rattle.rules.specs.Checks.{badIfComes};
-ghost use Rattle.rules.specs.SellerStatus.{notSeller, noSellerMove, counters as isCounter, accepts as isAcceptance, offers as isOffer, grantedAfter, goesOn, annulsConfirmed, partlyUsed, sellerNumber};
+ghost use Rattle.rules.specs.Checks.{namedRow};
+ghost use Rattle.rules.specs.SellerStatus.{notSeller, noSellerMove, counters as isCounter, accepts as isAcceptance, offers as isOffer, grantedAfter, unfitOffer, goesOn, fitNumber, offerNumber, annulsConfirmed, partlyUsed, sellerNumber};
 ghost use Rattle.layout.specs.SoundAt.{SoundAt};
-ghost use Rattle.confirming.specs.Placed.{Placed};
-ghost use Rattle.seller.specs.Offer.{unfit, fitNumber, offerNumberOf, moveNumber, rowNumber};
+ghost use Rattle.megawatts.specs.Placed.{Placed};
+ghost use Rattle.megawatts.specs.Named.{Named, Suits};
 use checks::checks::bad_if_comes;
 use checks::checks::bad_price;
 use checks::checks::bad_status;
@@ -20,12 +21,6 @@ use checks::checks::named;
 use checks::checks::no_reference;
 use checks::moves::seller_may_row;
 use confirming::confirming::confirm_number;
-use confirming::megawatts::partly_used;
-use confirming::reading::count_of;
-use confirming::reading::is_confirmed;
-use confirming::reading::is_transfer;
-use confirming::reading::profile_in_force;
-use confirming::reading::span_at;
 use layout::numbers::ACCEPTED;
 use layout::numbers::ANNULLED;
 use layout::numbers::APPROVED;
@@ -49,6 +44,12 @@ use layout::numbers::WRONG_PRICE;
 use layout::numbers::WRONG_PROFILE;
 use layout::rows::has_flag;
 use layout::rows::word_at;
+use megawatts::moving::partly_used;
+use megawatts::reading::count_of;
+use megawatts::reading::is_confirmed;
+use megawatts::reading::is_transfer;
+use megawatts::reading::profile_in_force;
+use megawatts::reading::span_at;
 use rules::Action;
 
 // 6, 7; 10, 11; any of them.
@@ -153,7 +154,7 @@ fn equals_requested(l: &[u32], rows: usize, hours: usize, n: usize, mw: &[u32]) 
 fn unfit_offer(l: &[u32], rows: usize, hours: usize, n: usize, a: Action, mw: &[u32]) -> bool
     requires { ⌜ Placed (now l) rows hours n ⌝ }
     requires { ⌜ length (now mw) ≡ spanHours (row hours (now l) n) ⌝ }
-    ensures { λ b. ⌜ b ≡ unfit hours a (now (mw .entry)) (row hours (now (l .entry)) n) ⌝ }
+    ensures { λ b. ⌜ b ≡ unfitOffer hours a (now (mw .entry)) (row hours (now (l .entry)) n) ⌝ }
 {
     if counters(a) {
         return !covers_requested(l, rows, hours, n, mw);
@@ -164,11 +165,11 @@ fn unfit_offer(l: &[u32], rows: usize, hours: usize, n: usize, a: Action, mw: &[
     !equals_requested(l, rows, hours, n, mw)
 }
 
-// 12, and then, if it confirms, as confirming.
+// 12; then, if it confirms, as confirming.
 fn fit_number(l: &[u32], rows: usize, hours: usize, n: usize, a: Action, mw: &[u32]) -> u32
-    requires { ⌜ Placed (now l) rows hours n ⌝ }
+    requires { ⌜ Named (now l) rows hours a n ⌝ }
     requires { ⌜ length (now mw) ≡ spanHours (row hours (now l) n) ⌝ }
-    ensures { λ r. ⌜ r ≡ fitNumber hours (now (l .entry)) n a (now (mw .entry)) ⌝ }
+    ensures { λ r. ⌜ r ≡ fitNumber hours (now (l .entry)) a (now (mw .entry)) ⌝ }
 {
     if unfit_offer(l, rows, hours, n, a, mw) {
         return WRONG_PRICE;
@@ -182,9 +183,9 @@ fn fit_number(l: &[u32], rows: usize, hours: usize, n: usize, a: Action, mw: &[u
 
 // The same with granted after the move: the profile that comes, else the profile in force.
 fn granted_number(l: &[u32], words: &[u32], rows: usize, hours: usize, n: usize, a: Action) -> u32
-    requires { ⌜ Placed (now l) rows hours n ⌝ }
-    requires { ⌜ badIfComes (now words) a (row hours (now l) n) ≡ false ⌝ }
-    ensures { λ r. ⌜ r ≡ fitNumber hours (now (l .entry)) n a (grantedAfter hours (now (words .entry)) a (row hours (now (l .entry)) n)) ⌝ }
+    requires { ⌜ Named (now l) rows hours a n ⌝ }
+    requires { ⌜ Suits (now words) a (row hours (now l) n) ⌝ }
+    ensures { λ r. ⌜ r ≡ fitNumber hours (now (l .entry)) a (grantedAfter hours (now (words .entry)) a (namedRow hours (now (l .entry)) a)) ⌝ }
 {
     if comes(a) {
         let from = a.offset as usize;
@@ -197,10 +198,9 @@ fn granted_number(l: &[u32], words: &[u32], rows: usize, hours: usize, n: usize,
     fit_number(l, rows, hours, n, a, &l[from..from + count])
 }
 
-// For 6, 7, 10, 11: 7, unless length 0; 12: price too high; and the above.
 fn offer_number(l: &[u32], words: &[u32], rows: usize, hours: usize, n: usize, a: Action) -> u32
-    requires { ⌜ Placed (now l) rows hours n ⌝ }
-    ensures { λ r. ⌜ r ≡ offerNumberOf hours (now (l .entry)) (now (words .entry)) n a ⌝ }
+    requires { ⌜ Named (now l) rows hours a n ⌝ }
+    ensures { λ r. ⌜ r ≡ offerNumber hours (now (l .entry)) (now (words .entry)) a ⌝ }
 {
     let count = count_of(l, rows, hours, n);
     if bad_if_comes(words, a, count) {
@@ -212,16 +212,11 @@ fn offer_number(l: &[u32], words: &[u32], rows: usize, hours: usize, n: usize, a
     granted_number(l, words, rows, hours, n, a)
 }
 
-fn move_number(l: &[u32], words: &[u32], rows: usize, hours: usize, n: usize, a: Action) -> u32
-    requires { ⌜ Placed (now l) rows hours n ⌝ }
-    ensures { λ r. ⌜ r ≡ moveNumber hours (now (l .entry)) (now (words .entry)) n a ⌝ }
+// For 6, 7, 10, 11.
+fn offered_number(l: &[u32], words: &[u32], rows: usize, hours: usize, n: usize, a: Action) -> u32
+    requires { ⌜ Named (now l) rows hours a n ⌝ }
+    ensures { λ r. ⌜ r ≡ (offerNumber hours (now (l .entry)) (now (words .entry)) a onlyIf isOffer a) ⌝ }
 {
-    if not_seller(l, rows, hours, n, a) {
-        return WRONG_PARTY;
-    }
-    if no_seller_move(l, rows, hours, n, a) {
-        return WRONG_MOVE;
-    }
     if offers(a) {
         return offer_number(l, words, rows, hours, n, a);
     }
@@ -236,20 +231,6 @@ fn annuls_partly_used(l: &[u32], rows: usize, hours: usize, n: usize, a: Action)
     annuls_confirmed(l, rows, hours, n, a) && partly_used(l, rows, hours, n)
 }
 
-fn row_number(l: &[u32], words: &[u32], rows: usize, hours: usize, n: usize, a: Action) -> u32
-    requires { ⌜ Placed (now l) rows hours n ⌝ }
-    ensures { λ r. ⌜ r ≡ rowNumber hours (now (l .entry)) (now (words .entry)) n a ⌝ }
-{
-    let number = move_number(l, words, rows, hours, n, a);
-    if number != 0 {
-        return number;
-    }
-    if annuls_partly_used(l, rows, hours, n, a) {
-        return PARTLY_USED;
-    }
-    0
-}
-
 // 0, or the first check that applies.
 pub fn seller_number(l: &[u32], words: &[u32], rows: usize, hours: usize, a: Action) -> u32
     requires { ⌜ SoundAt (now l) rows hours ⌝ }
@@ -262,5 +243,18 @@ pub fn seller_number(l: &[u32], words: &[u32], rows: usize, hours: usize, a: Act
         return OUT_OF_RANGE;
     }
     let row = named(a);
-    row_number(l, words, rows, hours, row.0, a)
+    if not_seller(l, rows, hours, row.0, a) {
+        return WRONG_PARTY;
+    }
+    if no_seller_move(l, rows, hours, row.0, a) {
+        return WRONG_MOVE;
+    }
+    let number = offered_number(l, words, rows, hours, row.0, a);
+    if number != 0 {
+        return number;
+    }
+    if annuls_partly_used(l, rows, hours, row.0, a) {
+        return PARTLY_USED;
+    }
+    0
 }

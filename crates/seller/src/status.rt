@@ -6,11 +6,11 @@ ghost use lib.ListN.{length};
 ghost use Rattle.rules.specs.Numbers.{rowWords};
 ghost use Rattle.rules.specs.Layout.{row, onRow, setStatus};
 ghost use Rattle.rules.specs.Megawatts.{carriesOver};
-ghost use Rattle.rules.specs.Checks.{badIfComes};
-ghost use Rattle.rules.specs.SellerStatus.{grantedAfter, sellerNumber, sellerAfter};
+ghost use Rattle.rules.specs.SellerStatus.{grantedAfter, sellerNumber, otherAfter, sellerAfter};
 ghost use Rattle.layout.specs.SoundAt.{SoundAt};
-ghost use Rattle.confirming.specs.Placed.{Placed};
-ghost use Rattle.seller.specs.Offer.{overOffer, overOther, otherOf};
+ghost use Rattle.megawatts.specs.Placed.{Placed};
+ghost use Rattle.megawatts.specs.Named.{Named, Suits};
+ghost use Rattle.seller.specs.Offer.{overOffer, overOther};
 use crate::number::annuls_confirmed;
 use crate::number::goes_on;
 use crate::number::offers;
@@ -19,21 +19,21 @@ use checks::checks::comes;
 use checks::checks::named;
 use confirming::confirming::over_confirming;
 use confirming::confirming::over_confirming_own;
-use confirming::megawatts::annul;
-use confirming::megawatts::displace;
-use confirming::megawatts::over_annulling;
-use confirming::megawatts::over_displacing;
 use layout::numbers::DISPLACED;
 use layout::numbers::PROFILES;
 use layout::numbers::ROW_WORDS;
 use layout::numbers::STATUS;
-use layout::rows::row_at;
+use layout::rows::set_word;
+use megawatts::moving::annul;
+use megawatts::moving::displace;
+use megawatts::moving::over_annulling;
+use megawatts::moving::over_displacing;
 use rules::Action;
 
 // A relinquish record that goes on to 13 gives back.
 fn over_offer(l: &[u32], words: &[u32], rows: usize, hours: usize, n: usize, a: Action) -> bool
     requires { ⌜ Placed (now l) rows hours n ⌝ }
-    requires { ⌜ badIfComes (now words) a (row hours (now l) n) ≡ false ⌝ }
+    requires { ⌜ Suits (now words) a (row hours (now l) n) ⌝ }
     ensures { λ b. ⌜ b ≡ overOffer hours (now (l .entry)) n a (grantedAfter hours (now (words .entry)) a (row hours (now (l .entry)) n)) ⌝ }
 {
     if !goes_on(l, rows, hours, n, a) {
@@ -73,27 +73,11 @@ pub fn seller_over(l: &[u32], words: &[u32], rows: usize, hours: usize, a: Actio
     over_other(l, rows, hours, row.0, a)
 }
 
-fn mark_row(r: &mut [u32], status: u32)
-    requires { ⌜ rowWords ≤ length (now r) ⌝ }
-    ensures { λ _. ⌜ now (r .exit) ≡ setStatus status (now (r .entry)) ⌝ }
-{
-    r[STATUS] = status;
-}
-
-fn put_status(l: &mut [u32], rows: usize, hours: usize, n: usize, status: u32)
-    requires { ⌜ Placed (now l) rows hours n ⌝ }
-    ensures { λ _. ⌜ now (l .exit) ≡ onRow hours n (setStatus status) (now (l .entry)) ⌝ }
-{
-    let at = row_at(rows, hours, n);
-    let size = ROW_WORDS + PROFILES * hours;
-    mark_row(&mut l[at..at + size], status);
-}
-
 // Row n is displaced, annulled, or has the status alone.
 fn other_status(l: &mut [u32], rows: usize, hours: usize, n: usize, a: Action)
-    requires { ⌜ Placed (now l) rows hours n ⌝ }
+    requires { ⌜ Named (now l) rows hours a n ⌝ }
     requires { ⌜ overOther hours (now l) n a ≡ false ⌝ }
-    ensures { λ _. ⌜ now (l .exit) ≡ otherOf hours (now (l .entry)) n a ⌝ }
+    ensures { λ _. ⌜ now (l .exit) ≡ otherAfter hours (now (l .entry)) a ⌝ }
 {
     if a.status == DISPLACED {
         displace(l, rows, hours, n);
@@ -103,7 +87,7 @@ fn other_status(l: &mut [u32], rows: usize, hours: usize, n: usize, a: Action)
         annul(l, rows, hours, n);
         return;
     }
-    put_status(l, rows, hours, n, a.status);
+    set_word(l, rows, hours, n, STATUS, a.status);
 }
 
 // What the move writes.

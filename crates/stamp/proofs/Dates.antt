@@ -65,10 +65,6 @@ module _ {f : Fields} (r : Ranged f) where
   unfolding dayIn
   in-month = record { begins = omega arith; ends = omega (arith, next-month (monthIn f)) }
 
-  pub local-below : localSecond f < allSeconds
-  unfolding localSecond
-  local-below = omega (arith, day-below r)
-
   its-day : localSecond f / day ≡ dayIn f
   unfolding localSecond
   its-day = omega arith

@@ -11,9 +11,9 @@ use native.Mathlib.Numerals.{add-one}
 use lib.ListN.{getD, length, drop, drop-of-length-le}
 use lib.Seq.{drop-cons}
 use Rattle.stamp.specs.Pick.{pick}
-use Rattle.stamp.specs.Stamp.{noDigit, twoDigits, digit0, digit9, behind, offset, hour, placeFrom, zoneOf, zoneLetters, zones, zoneCount, letters, noNumber}
+use Rattle.stamp.specs.Stamp.{noDigit, twoDigits, digit0, digit9, placeFrom, zoneOf, zoneLetters, zones, zoneCount, letters, noNumber}
 use Rattle.stamp.proofs.Picks.{by-test, or-left, or-right, hit, skip}
-use Rattle.stamp.proofs.Lists.{most-at, each-at}
+use Rattle.stamp.proofs.Lists.{each-at}
 
 pub record IsDigit (b : ℕ) : Type 0 where
   pub low : digit0 ≤ b
@@ -23,11 +23,6 @@ pub is-digit : (b : ℕ) → noDigit b ≡ false → IsDigit b
 unfolding noDigit
 is-digit b h =
     record { low = ltb-false b digit0 (or-left (ltb b digit0) (ltb digit9 b) h); high = ltb-false digit9 b (or-right (ltb b digit0) (ltb digit9 b) h) }
-
--- no zone is more than 8 hours behind UT
-pub offset-most : (z : ℕ) → offset z ≤ 8 * hour
-unfolding offset
-offset-most z = omega (arith, most-at behind 8 refl z)
 
 -- the search for w in a list, at the place k: it is at none of the places before
 pub record Seeking (w : ℕ) (xs : List ℕ) (k : ℕ) : Type 0 where

@@ -33,6 +33,14 @@ pub and-right : (a b : Bool) → (a && b) ≡ true → b ≡ true
 and-right true b h = h
 and-right false b h = absurd (false≢true h)
 
+-- the second test is put last
+pub moved : (a b c d : Bool) → (a && b && c && d) ≡ (a && c && d && b)
+moved true true c d = sym (and-true (c && d))
+moved true false true true = refl
+moved true false true false = refl
+moved true false false d = refl
+moved false b c d = refl
+
 -- one of two tests fails
 pub no-left : (a b : Bool) → a ≡ false → (a && b) ≡ false
 no-left a b p = ap (λ (c : Bool). c && b) p

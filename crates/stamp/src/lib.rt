@@ -63,10 +63,14 @@ pub fn read_stamp(bytes: &[u8]) -> Reading
         return refused();
     }
     let f = read::fields_of(bytes);
-    if !read::in_range(f) {
+    if !read::in_limits(f) {
         return refused();
     }
-    let ut = read::second_of(f);
+    let table = table::month_table();
+    if !read::in_month(&table, f) {
+        return refused();
+    }
+    let ut = read::second_of(&table, f);
     if ALL_SECONDS <= ut {
         return refused();
     }
@@ -95,7 +99,8 @@ pub fn write_stamp(bytes: &mut [u8], second: u32, zone: u32) -> u32
     if length != STAMP_LENGTH {
         return NOT_WRITTEN;
     }
-    let f = write::fields_at(second - offset, zone);
+    let table = table::month_table();
+    let f = write::fields_at(&table, second - offset, zone);
     write::put_fields(bytes, f);
     ACCEPTED
 }

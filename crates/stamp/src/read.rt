@@ -2,8 +2,8 @@
 ghost use mathlib.Core.Path.{_≡_};
 ghost use Prim.Native.Nat.{_+_, _<_};
 ghost use lib.ListN.{length};
-ghost use Rattle.stamp.specs.Stamp.{letters as lettersOf, noDigit, twoDigits, numberAt, stampZone, fieldsOf, isDate, isTime, inRange, secondOf, stampLength};
-ghost use Rattle.stamp.specs.Steps.{Ranged, DayIn};
+ghost use Rattle.stamp.specs.Stamp.{letters as lettersOf, noDigit, twoDigits, numberAt, stampZone, fieldsOf, isTime, secondOf, stampLength};
+ghost use Rattle.stamp.specs.Steps.{MonthTable, isMonth, inLimits, inMonth, OfMonth, Ranged, DayIn};
 use crate::CENTURY;
 use crate::DAY;
 use crate::Fields;
@@ -11,6 +11,7 @@ use crate::HOUR;
 use crate::MINUTE;
 use crate::calendar;
 use crate::calendar::MONTHS_OF_YEAR;
+use crate::table::Table;
 use crate::zone;
 
 // What two bytes give that are not both digits.
@@ -83,29 +84,23 @@ pub fn fields_of(bytes: &[u8]) -> Fields
     }
 }
 
-// A date of the years 2000 to 2099.
-fn is_date(f: Fields) -> bool
-    ensures { λ r. ⌜ r ≡ isDate f ⌝ }
+// A month of the years 2000 to 2099, and a day from 1 on.
+fn is_month(f: Fields) -> bool
+    ensures { λ r. ⌜ r ≡ isMonth f ⌝ }
 {
-    let year = f.year;
-    let month = f.month;
-    let day = f.day;
     if f.century != CENTURY {
         return false;
     }
-    if LAST_YEAR < year {
+    if LAST_YEAR < f.year {
         return false;
     }
-    if month < 1 {
+    if f.month < 1 {
         return false;
     }
-    if MONTHS_OF_YEAR < month {
+    if MONTHS_OF_YEAR < f.month {
         return false;
     }
-    if day < 1 {
-        return false;
-    }
-    day <= calendar::days_in(MONTHS_OF_YEAR * year + (month - 1))
+    1 <= f.day
 }
 
 // Hours 00 to 23, minutes and seconds 00 to 59.
@@ -121,11 +116,11 @@ fn is_time(f: Fields) -> bool
     f.second <= LAST_SECOND
 }
 
-// Date, time and zone in range.
-pub fn in_range(f: Fields) -> bool
-    ensures { λ r. ⌜ r ≡ inRange f ⌝ }
+// Month, time and zone in range: all but the month's last day.
+pub fn in_limits(f: Fields) -> bool
+    ensures { λ r. ⌜ r ≡ inLimits f ⌝ }
 {
-    if !is_date(f) {
+    if !is_month(f) {
         return false;
     }
     if !is_time(f) {
@@ -134,20 +129,32 @@ pub fn in_range(f: Fields) -> bool
     f.zone < zone::ZONES
 }
 
+// The day is not past the month's last.
+pub fn in_month(table: &Table, f: Fields) -> bool
+    requires { ⌜ MonthTable (now table) ⌝ }
+    requires { ⌜ OfMonth f ⌝ }
+    ensures { λ r. ⌜ r ≡ inMonth f ⌝ }
+{
+    let month = MONTHS_OF_YEAR * f.year + (f.month - 1);
+    f.day <= calendar::days_in(table, month)
+}
+
 // The day, counted from 2000-01-01.
-fn day_in(f: Fields) -> u32
+fn day_in(table: &Table, f: Fields) -> u32
+    requires { ⌜ MonthTable (now table) ⌝ }
     requires { ⌜ Ranged f ⌝ }
     ensures { λ r. ⌜ DayIn f r ⌝ }
 {
     let month = MONTHS_OF_YEAR * f.year + (f.month - 1);
-    calendar::days_before(month) + (f.day - 1)
+    calendar::days_before(table, month) + (f.day - 1)
 }
 
 // The second in UT: the second in the zone, and the hours that the zone is behind.
-pub fn second_of(f: Fields) -> u32
+pub fn second_of(table: &Table, f: Fields) -> u32
+    requires { ⌜ MonthTable (now table) ⌝ }
     requires { ⌜ Ranged f ⌝ }
     ensures { λ r. ⌜ r ≡ secondOf f ⌝ }
 {
-    let local = day_in(f) * DAY + f.hour * HOUR + f.minute * MINUTE + f.second;
+    let local = day_in(table, f) * DAY + f.hour * HOUR + f.minute * MINUTE + f.second;
     local + zone::offset_of(f.zone)
 }

@@ -1,9 +1,10 @@
 // The days before each month, from January 2000 to December 2099.
-ghost use mathlib.Core.Path.{_≡_};
-ghost use Prim.Native.Nat.{_<_};
-ghost use Rattle.stamp.specs.Calendar.{daysBefore, allMonths};
+ghost use Rattle.stamp.specs.Steps.{MonthTable};
 
-const DAYS_BEFORE: [u32; 1200] = [
+// A number for each month.
+pub type Table = [u32; 1200];
+
+const DAYS_BEFORE: Table = [
     0,
     31,
     60,
@@ -1206,10 +1207,9 @@ const DAYS_BEFORE: [u32; 1200] = [
     36494,
 ];
 
-// The days before a month.
-pub fn entry(month: u32) -> u32
-    requires { ⌜ month < allMonths ⌝ }
-    ensures { λ r. ⌜ r ≡ daysBefore month ⌝ }
+// The table: made once in each call from outside, and lent on.
+pub fn month_table() -> Table
+    ensures { λ r. ⌜ MonthTable r ⌝ }
 {
-    DAYS_BEFORE[month as usize]
+    DAYS_BEFORE
 }

@@ -3,7 +3,7 @@ ghost use mathlib.Core.Path.{_≡_};
 ghost use Prim.Native.Nat.{_+_, _<_};
 ghost use lib.ListN.{length};
 ghost use Rattle.stamp.specs.Stamp.{fieldsAt, bytesOf, allSeconds, stampLength, zoneCount, noNumber};
-ghost use Rattle.stamp.specs.Steps.{Printable, putDigits, putZone};
+ghost use Rattle.stamp.specs.Steps.{MonthTable, Printable, putDigits, putZone};
 use crate::CENTURY;
 use crate::DAY;
 use crate::Fields;
@@ -11,22 +11,24 @@ use crate::HOUR;
 use crate::MINUTE;
 use crate::calendar;
 use crate::calendar::MONTHS_OF_YEAR;
+use crate::table::Table;
 use crate::zone;
 
 const DIGIT_0: u32 = 48;
 
 // The numbers of a second that is counted in the zone.
-pub fn fields_at(local: u32, zone: u32) -> Fields
+pub fn fields_at(table: &Table, local: u32, zone: u32) -> Fields
+    requires { ⌜ MonthTable (now table) ⌝ }
     requires { ⌜ local < allSeconds ⌝ }
     ensures { λ r. ⌜ r ≡ fieldsAt local zone ⌝ }
 {
     let day = local / DAY;
-    let month = calendar::month_of(day);
+    let month = calendar::month_of(table, day);
     Fields {
         century: CENTURY,
         year: month / MONTHS_OF_YEAR,
         month: month % MONTHS_OF_YEAR + 1,
-        day: day - calendar::days_before(month) + 1,
+        day: day - calendar::days_before(table, month) + 1,
         hour: local % DAY / HOUR,
         minute: local % HOUR / MINUTE,
         second: local % MINUTE,

@@ -11,8 +11,8 @@ use borrow.Author.Needs.{needs}
 use Rattle.words.specs.Lists.{splice}
 use Rattle.words.proofs.Laws.{lent}
 use Rattle.rules.specs.Pick.{pick, _among_}
-use Rattle.rules.specs.Numbers.{headWords, rowWords, requestedPart}
-use Rattle.rules.specs.Layout.{Sized, rows, hours, provider, used, issued, rowOf, row, reqtype, setHours}
+use Rattle.rules.specs.Numbers.{rowWords, requestedPart}
+use Rattle.rules.specs.Layout.{rows, hours, provider, used, issued, rowOf, row, reqtype, setHours}
 use Rattle.rules.specs.Sound.{resold, redirect, firm, relates, inside}
 use Rattle.rules.specs.Moves.{isConfirmed}
 use Rattle.rules.specs.Megawatts.{carriesOver}
@@ -20,20 +20,14 @@ use Rattle.rules.specs.Checks.{profile}
 use Rattle.rules.specs.Submit.{goodRelated, relatedCustomer, badParties, submitNumber, newWords, newRow, submitAfter}
 use Rattle.rules.specs.declared.Action.{Action}
 use Rattle.rules.proofs.Picks.{and-goes}
-use Rattle.rules.proofs.Rows.{row-least}
-use Rattle.rules.proofs.SoundFacts.{sized, range}
+use Rattle.rules.proofs.SoundFacts.{range}
 use Rattle.rules.proofs.Passed.{profile-length, submit-passed}
 use Rattle.rules.proofs.Over.{over-submitting}
 use Rattle.layout.specs.SoundAt.{SoundAt}
+use Rattle.layout.proofs.SoundAt.{sized-at, head-fits}
 
 -- ---- a sound ledger
 module _ {l : List ℕ} {R H : ℕ} (s : SoundAt l R H) where
-  pub at-sized : Sized l R H
-  at-sized = subst (λ (x : ℕ). Sized l x H) (sym (s .rows)) (subst (λ (x : ℕ). Sized l (rows l) x) (sym (s .hours)) (sized (s .sound)))
-
-  pub head-in : headWords ≤ length l
-  head-in = omega (arith, s .sound .head .long, row-least (hours l) (rows l))
-
   -- an issued reference names a row; past the rows there is nothing
   pub issued-in : (r : ℕ) → issued l r ≡ true → rowOf r < R
   unfolding issued
@@ -43,7 +37,7 @@ module _ {l : List ℕ} {R H : ℕ} (s : SoundAt l R H) where
   none-past n le k = subst (λ (x : ℕ). getD (row x l n) k 0 ≡ 0) (sym (s .hours)) (s .sound .unused n (omega (arith, le, s .sound .head .used, s .rows)) k)
 
 -- for what a function on a sound ledger asks of the functions that it calls
-pub ruleset sound = (needs, at-sized, head-in)
+pub ruleset sound = (needs, sized-at, head-fits)
 
 -- ---- an accepted submission has a row, a profile in its slice, and room for it in the row
 module _ {l : List ℕ} {R H : ℕ} (s : SoundAt l R H) (w : List ℕ) (a : Action) (e : submitNumber H l w a ≡ 0) where

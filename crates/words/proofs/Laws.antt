@@ -12,7 +12,7 @@ use lib.ListN.{length, getD, set, take, drop, length-append, length-take, length
 use borrow.Author.Count.{below-none, below-more}
 use lib.Dec.{leb, eqb}
 use borrow.Author.Tests.{leb-true, le-leb, eq-eqb, eqb-true}
-use lib.Seq.{append-snoc, set-split, set-at, drop-cons, getD-at, getD-append-add, getD-take, getD-drop, ext-getD, drop-length, length-take-le, drop-drop, take-at}
+use lib.Seq.{append-snoc, set-split, set-at, drop-cons, getD-at, getD-append-add, getD-take, getD-drop, ext-getD, drop-length, length-take-le, drop-drop}
 use Rattle.words.specs.Lists.{part, splice, build, zip2, allBelow, firstBelow, sumBelow, noughts, every, covered, equal, roomy, within, zeros, total}
 
 which : (a b : ℕ) → Dec (a < b) → (a < b) ⊎ (b ≤ a)
@@ -66,9 +66,6 @@ filled-more d f i h =
     ∙ set-at (build i f) (getD d i 0) (drop (suc i) d) (f i) i (build-length i f)
     ∙ sym (append-snoc (build i f) (f i) (drop (suc i) d))
     ∙ ap (λ (k : ℕ). filled d f k) (sym (add-one i))
-
-pub filled-length : (d : List ℕ) (f : ℕ → ℕ) (i : ℕ) → i ≤ length d → length (filled d f i) ≡ length d
-filled-length d f i h = simp (length-append, build-length, length-drop) (omega arith)
 
 -- what is not yet passed is as it was
 pub filled-at : (d : List ℕ) (f : ℕ → ℕ) (i : ℕ) → i < length d → getD (filled d f i) i 0 ≡ getD d i 0
@@ -183,6 +180,9 @@ covered-at a b e i h = leb-true _ _ (all-at (λ k. leb (getD a k 0) (getD b k 0)
 pub equal-at : (a b : List ℕ) → equal a b ≡ true → (i : ℕ) → i < length a → getD a i 0 ≡ getD b i 0
 unfolding equal
 equal-at a b e i h = eqb-true _ _ (all-at (λ k. eqb (getD a k 0) (getD b k 0)) (length a) i e h)
+
+pub equal-lists : (a b : List ℕ) → length a ≡ length b → equal a b ≡ true → a ≡ b
+equal-lists a b n e = ext-getD 0 a b n (λ k lt. equal-at a b e k lt)
 
 pub roomy-at : (bound : ℕ) (a b : List ℕ) → roomy bound a b ≡ true → (i : ℕ) → i < length a → getD a i 0 + getD b i 0 ≤ bound
 unfolding roomy
@@ -308,14 +308,18 @@ module _ (l : List ℕ) (a n : ℕ) (fits : a + n ≤ length l) where
   pub part-at : (k : ℕ) → k < n → getD (part l a n) k 0 ≡ getD l (a + k) 0
   part-at k h = rw (getD-take, getD-drop)
 
-  -- a part that the borrow checker gives, by its start and end
-  pub part-between : (e : ℕ) → e ≡ a + n → take (e - a) (drop a l) ≡ part l a n
-  part-between e q = let w : e - a ≡ n = omega arith in ap (λ (k : ℕ). take k (drop a l)) w
-
 -- what the borrow checker gives when a part that was lent comes back
 pub back : (l : List ℕ) (a k : ℕ) (v : List ℕ) → length v ≡ k → take a l ++ (v ++ drop k (drop a l)) ≡ splice l a v
 unfolding splice
 back l a k v e = ap (λ (j : ℕ). take a l ++ (v ++ drop j (drop a l))) (sym e)
+
+-- a part that is written with what stands there
+pub splice-own : (l : List ℕ) (a n : ℕ) → a + n ≤ length l → splice l a (part l a n) ≡ l
+unfolding splice
+splice-own l a n h =
+    ap (λ (k : ℕ). take a l ++ (part l a n ++ drop k (drop a l))) (part-length l a n h)
+    ∙ ap (λ (x : List ℕ). take a l ++ x) (take-append-drop n (drop a l))
+    ∙ take-append-drop a l
 
 -- n words from a on that are lent, where a is b; and what was lent came back as v
 module _ (l : List ℕ) (a b n : ℕ) (is : a ≡ b) (fits : a + n ≤ length l) where
@@ -453,39 +457,6 @@ module _ (l : List ℕ) (a : ℕ) (v : List ℕ) (fits : a + length v ≤ length
       (lt-or-le i (a + length v)))
       (lt-or-le i a))
 
-pub splice-comm : (l : List ℕ) (a : ℕ) (v : List ℕ) (b : ℕ) (w : List ℕ) → a + length v ≤ b → b + length w ≤ length l → splice (splice l a v) b w ≡ splice (splice l b w) a v
-splice-comm l a v b w h k =
-    let fa : a + length v ≤ length l = omega arith in
-    let ea : length (splice l a v) ≡ length l = splice-length l a v fa in
-    let eb : length (splice l b w) ≡ length l = splice-length l b w k in
-    let fb : b + length w ≤ length (splice l a v) = omega arith in
-    splice-is (splice l b w) a v (omega arith) (splice (splice l a v) b w) (splice-length (splice l a v) b w fb ∙ ea ∙ sym eb)
-    (λ i x. splice-before (splice l a v) b w fb i (omega arith) ∙ splice-before l a v fa i x ∙ sym (splice-before l b w k i (omega arith)))
-    (λ i x. splice-before (splice l a v) b w fb (a + i) (omega arith) ∙ splice-in l a v fa i x)
-    (λ i x y.
-    ⊎-elim
-    (λ z. splice-before (splice l a v) b w fb i z ∙ splice-after l a v fa i x ∙ sym (splice-before l b w k i z))
-    (λ z.
-    ⊎-elim
-    (λ u.
-    let e : b + (i - b) ≡ i = omega arith in
-    subst (λ (m : ℕ). getD (splice (splice l a v) b w) m 0 ≡ getD (splice l b w) m 0) e
-    (splice-in (splice l a v) b w fb (i - b) (omega arith) ∙ sym (splice-in l b w k (i - b) (omega arith))))
-    (λ u. splice-after (splice l a v) b w fb i u ∙ splice-after l a v fa i x ∙ sym (splice-after l b w k i u))
-    (lt-or-le i (b + length w)))
-    (lt-or-le i b))
-
--- the last of two at one place stays
-pub splice-twice : (l : List ℕ) (a : ℕ) (v w : List ℕ) → length v ≡ length w → a + length w ≤ length l → splice (splice l a v) a w ≡ splice l a w
-splice-twice l a v w e h =
-    let fa : a + length v ≤ length l = omega arith in
-    let ea : length (splice l a v) ≡ length l = splice-length l a v fa in
-    let fb : a + length w ≤ length (splice l a v) = omega arith in
-    splice-is l a w h (splice (splice l a v) a w) (splice-length (splice l a v) a w fb ∙ ea)
-    (λ i x. splice-before (splice l a v) a w fb i x ∙ splice-before l a v fa i x)
-    (λ k x. splice-in (splice l a v) a w fb k x)
-    (λ i x y. splice-after (splice l a v) a w fb i x ∙ splice-after l a v fa i (omega arith))
-
 -- ---- the elements of two parts of one list, by the list's own indices
 pub build-part : (l : List ℕ) (b n : ℕ) → b + n ≤ length l → build n (λ k. getD l (b + k) 0) ≡ part l b n
 build-part l b n h =
@@ -513,23 +484,6 @@ module _ {l₀ : List ℕ} {a n : ℕ} {f : ℕ → ℕ} {l : List ℕ} {i : ℕ
 
   pub splicing-there : (b : ℕ) → (a + n ≤ b) ⊎ (b + n ≤ a) → getD l (b + i) 0 ≡ getD l₀ (b + i) 0
   splicing-there b w = splicing-kept h (b + i) (⊎-elim (λ x. inr (omega arith)) (λ x. inl (omega arith)) w)
-
--- ---- a prefix of an array that was lent and came back
-module _ (z v : List ℕ) (n : ℕ) (e : length v ≡ length (take n z)) (h : n ≤ length z) where
-  prefix-length : length v ≡ n
-  prefix-length = e ∙ length-take-le n z h
-
-  pub prefix-long : n ≤ length (v ++ drop n z)
-  prefix-long = simp length-append (omega (arith, prefix-length))
-
-  pub prefix-is : take n (v ++ drop n z) ≡ v
-  prefix-is = take-at v (drop n z) n prefix-length
-
--- a test of two parts, by the list's own indices
-pub all-parts : (t : ℕ → ℕ → Bool) (l : List ℕ) (a b n : ℕ) → a + n ≤ length l → b + n ≤ length l → allBelow n (λ k. t (getD l (a + k) 0) (getD l (b + k) 0)) ≡ allBelow (length (part l a n)) (λ k. t (getD (part l a n) k 0) (getD (part l b n) k 0))
-all-parts t l a b n ha hb =
-    all-cong _ _ n (λ k lt. cc (part-at l a n ha k lt, part-at l b n hb k lt))
-    ∙ ap (λ (m : ℕ). allBelow m (λ k. t (getD (part l a n) k 0) (getD (part l b n) k 0))) (sym (part-length l a n ha))
 
 -- ---- a part of a part, a splice in a part, and a store as a splice
 pub part-part : (l : List ℕ) (a n b m : ℕ) → a + n ≤ length l → b + m ≤ n → part (part l a n) b m ≡ part l (a + b) m

@@ -4,7 +4,7 @@ use borrow.Author.Needs.{needs}
 use Rattle.rules.specs.Layout.{row}
 use Rattle.rules.specs.Checks.{badIfComes}
 use Rattle.checks.proofs.Profiles.{bad-if-comes}
-use Rattle.customer.proofs.Laws.{of-named}
+use Rattle.megawatts.proofs.Named.{of-named}
 use Rattle.customer.proofs.bad_bid_profile.Statement.{statement}
 use Rattle.customer.proofs.bad_bid_profile.Tie as tie
 

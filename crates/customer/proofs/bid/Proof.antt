@@ -7,8 +7,8 @@ use borrow.Author.Needs.{needs}
 use Rattle.rules.specs.CustomerStatus.{bidden}
 use Rattle.rules.proofs.SoundFacts.{SoundWords}
 use Rattle.layout.proofs.Lent.{row-lent, row-lent-length, row-back}
-use Rattle.confirming.proofs.Laws.{sized, own-words}
-use Rattle.customer.specs.Named.{Suits}
+use Rattle.megawatts.proofs.Laws.{sized, own-words}
+use Rattle.megawatts.specs.Named.{Suits}
 use Rattle.customer.proofs.bid.Statement.{statement}
 use Rattle.customer.proofs.bid.Tie as tie
 

@@ -5,7 +5,7 @@ use Rattle.rules.specs.Layout.{row}
 use Rattle.rules.specs.Checks.{badIfComes}
 use Rattle.rules.specs.CustomerStatus.{bidNumber}
 use Rattle.rules.proofs.Picks.{choice, results}
-use Rattle.customer.proofs.Laws.{of-named, suits}
+use Rattle.megawatts.proofs.Named.{of-named, suits}
 use Rattle.customer.proofs.bid_number.Statement.{statement}
 use Rattle.customer.proofs.bid_number.Tie as tie
 

@@ -3,8 +3,9 @@ use mathlib.Core.Path.{sym, _∙_}
 use borrow.Author.Needs.{needs}
 use Rattle.rules.specs.CustomerStatus.{customerNumber}
 use Rattle.rules.proofs.Picks.{choice, results}
-use Rattle.customer.specs.Named.{Named}
-use Rattle.customer.proofs.Laws.{headed, named-at}
+use Rattle.megawatts.specs.Named.{Named}
+use Rattle.layout.proofs.SoundAt.{head-fits}
+use Rattle.megawatts.proofs.Named.{named-at}
 use Rattle.customer.proofs.customer_number.Statement.{statement}
 use Rattle.customer.proofs.customer_number.Tie as tie
 
@@ -14,14 +15,14 @@ S c = c .before .before .before .before .before .before .before
 names : (c : tie.After-named) → Named (S c .args .l .now) (S c .args .rows) (S c .args .hours) (S c .args .a) (c .named .result .0)
 names c =
     let f = c .before .before .before in
-    named-at (S c .args .a) (S c .pre) (sym (f .before .no-reference .ensures) ∙ f .if1 .left) (c .named .ensures)
+    named-at (S c .pre) (S c .args .a) (sym (f .before .no-reference .ensures) ∙ f .if1 .left) (c .named .ensures)
 
 pub customer-number-spec : {M : Type 1} → statement M
 unfolding customerNumber
 customer-number-spec =
     tie.close
     (tie.spec
-    (λ c κs. headed (c .before .before .pre))
+    (λ c κs. head-fits (c .before .before .pre))
     (λ c. search choice depth 16)
     (λ c κs. search needs)
     (λ c. search choice depth 16)

@@ -67,7 +67,7 @@ customer-status-spec =
     let t = b .before .before in
     let m = t .before .before .before .before in
     let s = S m in
-    g .set-status .ensures
+    g .set-word .ensures
     ∙ ap (λ (x : List ℕ). onRow (s .args .hours) (m .named .result .0) (setStatus (s .args .a .status)) x) (b .bid .ensures)
     ∙ ap (λ (k : ℕ). onRow (s .args .hours) k (setStatus (s .args .a .status)) (onRow (s .args .hours) k (bidden (s .args .hours) (s .args .words .now) (s .args .a)) (s .args .l .now))) (m .named .ensures)
     ∙ sym (after-rebid (s .args .hours) (s .args .l .now) (s .args .words .now) (s .args .a) (bidding t) (resting (t .before .before))))
@@ -82,6 +82,6 @@ customer-status-spec =
     let t = g .before .before in
     let m = t .before .before .before .before in
     let s = S m in
-    g .set-status2 .ensures
+    g .set-word2 .ensures
     ∙ ap (λ (k : ℕ). onRow (s .args .hours) k (setStatus (s .args .a .status)) (s .args .l .now)) (m .named .ensures)
     ∙ sym (after-other (s .args .hours) (s .args .l .now) (s .args .words .now) (s .args .a) (other t))))

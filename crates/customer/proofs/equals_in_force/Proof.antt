@@ -6,7 +6,7 @@ use lib.ListN.{length}
 use borrow.Author.Needs.{needs}
 use Rattle.words.specs.Lists.{equal}
 use Rattle.rules.specs.Layout.{row}
-use Rattle.confirming.proofs.Laws.{in-force-by, span-lent, placed}
+use Rattle.megawatts.proofs.Laws.{in-force-by, span-lent, placed}
 use Rattle.customer.proofs.equals_in_force.Statement.{statement}
 use Rattle.customer.proofs.equals_in_force.Tie as tie
 

@@ -2,8 +2,8 @@
 use mathlib.Core.Path.{ap, _∙_}
 use mathlib.Core.Bool.{not}
 use Rattle.rules.specs.CustomerStatus.{noCustomerMove}
-use Rattle.confirming.proofs.Laws.{placed}
-use Rattle.customer.proofs.Laws.{of-named}
+use Rattle.megawatts.proofs.Laws.{placed}
+use Rattle.megawatts.proofs.Named.{of-named}
 use Rattle.customer.proofs.no_customer_move.Statement.{statement}
 use Rattle.customer.proofs.no_customer_move.Tie as tie
 

@@ -4,8 +4,8 @@ use mathlib.Core.Bool.{not}
 use Prim.Native.Nat.{ℕ}
 use lib.Dec.{eqb}
 use Rattle.rules.specs.CustomerStatus.{notCustomer}
-use Rattle.confirming.proofs.Laws.{placed}
-use Rattle.customer.proofs.Laws.{of-named}
+use Rattle.megawatts.proofs.Laws.{placed}
+use Rattle.megawatts.proofs.Named.{of-named}
 use Rattle.customer.proofs.not_customer.Statement.{statement}
 use Rattle.customer.proofs.not_customer.Tie as tie
 

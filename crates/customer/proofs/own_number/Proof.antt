@@ -7,7 +7,7 @@ use Rattle.rules.specs.Numbers.{approved}
 use Rattle.rules.specs.Layout.{row, hasFlag}
 use Rattle.rules.specs.Megawatts.{inForce}
 use Rattle.rules.specs.Confirming.{confirmNumber}
-use Rattle.confirming.proofs.Laws.{placed}
+use Rattle.megawatts.proofs.Laws.{placed}
 use Rattle.customer.proofs.own_number.Statement.{statement}
 use Rattle.customer.proofs.own_number.Tie as tie
 

@@ -8,7 +8,7 @@ use Rattle.words.specs.Lists.{equal}
 use Rattle.rules.specs.Numbers.{requestedPart}
 use Rattle.rules.specs.Layout.{row}
 use Rattle.rules.specs.Megawatts.{inForce}
-use Rattle.confirming.proofs.Laws.{span-lent}
+use Rattle.megawatts.proofs.Laws.{span-lent}
 use Rattle.customer.proofs.requested_in_force.Statement.{statement}
 use Rattle.customer.proofs.requested_in_force.Tie as tie
 

@@ -5,8 +5,8 @@ use borrow.Author.Needs.{needs}
 use borrow.Author.Tests.{eq-eqb, ne-eqb}
 use Rattle.rules.specs.CustomerStatus.{unfitBid}
 use Rattle.rules.proofs.Picks.{and-stops, and-goes}
-use Rattle.confirming.proofs.Laws.{placed}
-use Rattle.customer.proofs.Laws.{of-named}
+use Rattle.megawatts.proofs.Laws.{placed}
+use Rattle.megawatts.proofs.Named.{of-named}
 use Rattle.customer.proofs.unfit_bid.Statement.{statement}
 use Rattle.customer.proofs.unfit_bid.Tie as tie
 

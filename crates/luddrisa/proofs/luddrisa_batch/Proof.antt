@@ -54,7 +54,7 @@ use denote.Signature.{plain}
 use Rattle.rules.specs.Sound.{sound as isSound}
 use Rattle.rules.specs.Act.{step as stepped}
 use Rattle.rules.specs.Calls.{togetherNumber, togetherRun, togetherAnswers}
-use Rattle.luddrisa.proofs.Together.{too-few-number, too-few-ledger, too-few-answers, together-number, together-ledger, together-answers}
+use Rattle.rules.proofs.Batches.{too-few-number, too-few-ledger, too-few-answers, together-number, together-ledger, together-answers}
 use Rattle.rules.specs.declared.Action.{Action}
 use Rattle.rules.specs.declared.Answer.{Answer}
 use Rattle.rules.proofs.Action as T

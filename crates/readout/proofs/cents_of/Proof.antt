@@ -6,7 +6,7 @@ use borrow.Author.Needs.{needs}
 use Rattle.words.specs.Lists.{total}
 use Rattle.rules.specs.Layout.{row, granted}
 use Rattle.rules.specs.ReadOut.{cents}
-use Rattle.confirming.proofs.Laws.{own-words, placed}
+use Rattle.megawatts.proofs.Laws.{own-words, placed}
 use Rattle.readout.proofs.Laws.{granted-most}
 use Rattle.readout.proofs.cents_of.Statement.{statement}
 use Rattle.readout.proofs.cents_of.Tie as tie

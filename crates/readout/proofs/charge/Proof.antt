@@ -6,8 +6,8 @@ use borrow.Author.Tests.{not-true, not-false}
 use native.Mathlib.Omega.{arith}
 use Rattle.rules.specs.Layout.{rows, hours, issued}
 use Rattle.rules.specs.Sound.{sound}
-use Rattle.confirming.specs.Placed.{Placed}
-use Rattle.confirming.proofs.Laws.{sized, in-rows}
+use Rattle.megawatts.specs.Placed.{Placed}
+use Rattle.megawatts.proofs.Laws.{sized, in-rows}
 use Rattle.readout.proofs.Laws.{head-read, placed-row, charge-unsound, charge-unissued, charge-unconfirmed, charge-is}
 use Rattle.readout.proofs.charge.Statement.{statement}
 use Rattle.readout.proofs.charge.Tie as tie

@@ -3,7 +3,7 @@ use mathlib.Core.Path.{ap, _∙_}
 use borrow.Author.Needs.{needs}
 use Rattle.rules.specs.Numbers.{grantedGiven}
 use Rattle.rules.specs.Layout.{hasFlag}
-use Rattle.confirming.proofs.Laws.{placed}
+use Rattle.megawatts.proofs.Laws.{placed}
 use Rattle.readout.proofs.Laws.{force-lent}
 use Rattle.readout.proofs.in_force_of.Statement.{statement}
 use Rattle.readout.proofs.in_force_of.Tie as tie

@@ -26,13 +26,16 @@ returns-3 c = refuses-early _ _ _ (c .before .before .before .if1 .left) (c .bef
 returns-4 : tie.Need-returns-4
 returns-4 c = refuses-length _ _ _ (c .before .before .before .before .if1 .left) (c .before .before .before .if2 .left) (omega arith) (omega arith)
 
+month-table-requires : tie.Need-month-table-requires
+month-table-requires c κs = search needs
+
 fields-at-requires : tie.Need-fields-at-requires
-fields-at-requires c κs = search needs
+fields-at-requires c κs = (c .before .month-table .ensures, omega arith)
 
 put-fields-requires : tie.Need-put-fields-requires
 put-fields-requires c κs =
     let made = c .before .fields-at in
-    let passed = c .before .before .before .before .before .if2 .left in
+    let passed = c .before .before .before .before .before .before .before .if2 .left in
     (omega arith, subst (λ (f : Fields). Printable f) (sym (made .ensures)) (printable (at-ranged _ _ (omega arith) passed)))
 
 same-length : tie.Need-same-length
@@ -43,7 +46,7 @@ unfolding stampOf
 returns-5 c =
     let put = c .before .before .put-fields in
     let made = c .before .before .before .before in
-    let told = made .before .before .before in
+    let told = made .before .before .before .before .before in
     let s = told .before .before .before .before in
     let w : Writable (s .args .bytes .now) (s .args .second) (s .args .zone) = record { early = omega arith; zones = omega arith; late = omega arith; long = omega arith } in
     let e = ap (λ (o : ℕ). bytesOf (fieldsAt (s .args .second - o) (s .args .zone))) (told .offset-of .ensures .is) in
@@ -58,6 +61,7 @@ write-stamp-spec =
     offset-of-requires
     returns-3
     returns-4
+    month-table-requires
     fields-at-requires
     put-fields-requires
     same-length

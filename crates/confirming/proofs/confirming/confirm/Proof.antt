@@ -6,7 +6,7 @@ use Rattle.rules.specs.Layout.{row, reqtype}
 use Rattle.rules.specs.Sound.{original}
 use Rattle.rules.specs.Confirming.{confirm}
 use Rattle.rules.proofs.Picks.{hit-by, skip}
-use Rattle.confirming.proofs.Laws.{placed}
+use Rattle.megawatts.proofs.Laws.{placed}
 use Rattle.confirming.proofs.confirming.confirm.Statement.{statement}
 use Rattle.confirming.proofs.confirming.confirm.Tie as tie
 

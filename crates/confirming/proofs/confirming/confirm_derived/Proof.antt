@@ -8,7 +8,8 @@ use lib.ListN.{length, getD}
 use borrow.Author.Needs.{needs}
 use Rattle.rules.specs.Layout.{row, reqtype}
 use Rattle.rules.specs.Confirming.{confirmDerived}
-use Rattle.confirming.proofs.Laws.{sized, in-rows, own-words, type-three, related-before, related-in, span-fits, after-take, not-short, placed}
+use Rattle.megawatts.proofs.Laws.{sized, in-rows, own-words, type-three, related-before, related-in, span-fits, after-take, placed}
+use Rattle.confirming.proofs.Laws.{not-short}
 use Rattle.confirming.proofs.confirming.confirm_derived.Statement.{statement}
 use Rattle.confirming.proofs.confirming.confirm_derived.Tie as tie
 

@@ -4,7 +4,7 @@ use native.Mathlib.Omega.{arith}
 use lib.ListN.{length}
 use borrow.Author.Needs.{needs}
 use Rattle.rules.specs.Confirming.{confirmOriginal}
-use Rattle.confirming.proofs.Laws.{sized, in-rows, own-words, span-fits, placed}
+use Rattle.megawatts.proofs.Laws.{sized, in-rows, own-words, span-fits, placed}
 use Rattle.confirming.proofs.confirming.confirm_original.Statement.{statement}
 use Rattle.confirming.proofs.confirming.confirm_original.Tie as tie
 

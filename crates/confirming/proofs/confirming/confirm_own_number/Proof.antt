@@ -5,7 +5,7 @@ use Prim.Native.Nat.{ℕ}
 use borrow.Author.Needs.{needs}
 use Rattle.rules.specs.Layout.{row}
 use Rattle.rules.specs.Confirming.{confirmNumber}
-use Rattle.confirming.proofs.Laws.{in-force-by, span-lent, placed}
+use Rattle.megawatts.proofs.Laws.{in-force-by, span-lent, placed}
 use Rattle.confirming.proofs.confirming.confirm_own_number.Statement.{statement}
 use Rattle.confirming.proofs.confirming.confirm_own_number.Tie as tie
 

@@ -8,7 +8,8 @@ use lib.ListN.{length, getD}
 use borrow.Author.Needs.{needs}
 use Rattle.rules.specs.Layout.{Sized, row, reqtype, relatedRow}
 use Rattle.rules.proofs.Over.{full}
-use Rattle.confirming.proofs.Laws.{sized, in-rows, own-words, related-before, related-placed, related-in, redirect-three, span-fits, after-take, after-give, not-short, not-over, relinquish-chain, placed}
+use Rattle.megawatts.proofs.Laws.{sized, in-rows, own-words, related-before, related-placed, related-in, redirect-three, span-fits, after-take, after-give, placed}
+use Rattle.confirming.proofs.Laws.{not-short, not-over, relinquish-chain}
 use Rattle.confirming.proofs.confirming.confirm_relinquish.Statement.{statement}
 use Rattle.confirming.proofs.confirming.confirm_relinquish.Tie as tie
 

@@ -9,7 +9,7 @@ use Rattle.rules.specs.Numbers.{FULL-TRANSFER}
 use Rattle.rules.specs.Layout.{row, reqtype, relatedRow}
 use Rattle.rules.specs.Confirming.{drawnFrom, sameSpan, partial}
 use Rattle.rules.proofs.Picks.{and-stops, and-goes}
-use Rattle.confirming.proofs.Laws.{sized, in-rows, related-in, span-fits, placed}
+use Rattle.megawatts.proofs.Laws.{sized, in-rows, related-in, span-fits, placed}
 use Rattle.confirming.proofs.confirming.is_partial.Statement.{statement}
 use Rattle.confirming.proofs.confirming.is_partial.Tie as tie
 

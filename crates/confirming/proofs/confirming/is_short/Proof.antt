@@ -9,7 +9,7 @@ use Rattle.rules.specs.Layout.{row, reqtype}
 use Rattle.rules.specs.Sound.{original}
 use Rattle.rules.specs.Confirming.{short, drawnFrom}
 use Rattle.rules.proofs.Picks.{and-stops, and-goes}
-use Rattle.confirming.proofs.Laws.{sized, type-three, related-in, span-fits, placed}
+use Rattle.megawatts.proofs.Laws.{sized, type-three, related-in, span-fits, placed}
 use Rattle.confirming.proofs.confirming.is_short.Statement.{statement}
 use Rattle.confirming.proofs.confirming.is_short.Tie as tie
 

@@ -5,7 +5,7 @@ use Rattle.rules.specs.Layout.{row, reqtype}
 use Rattle.rules.specs.Sound.{transfer}
 use Rattle.rules.specs.Confirming.{unapproved}
 use Rattle.rules.proofs.Picks.{and-stops, and-goes}
-use Rattle.confirming.proofs.Laws.{placed}
+use Rattle.megawatts.proofs.Laws.{placed}
 use Rattle.confirming.proofs.confirming.is_unapproved.Statement.{statement}
 use Rattle.confirming.proofs.confirming.is_unapproved.Tie as tie
 

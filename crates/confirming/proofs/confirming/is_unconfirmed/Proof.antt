@@ -9,7 +9,7 @@ use Rattle.rules.specs.Sound.{original}
 use Rattle.rules.specs.Moves.{isConfirmed}
 use Rattle.rules.specs.Confirming.{unconfirmed}
 use Rattle.rules.proofs.Picks.{and-stops, and-goes}
-use Rattle.confirming.proofs.Laws.{sized, type-three, related-in, placed}
+use Rattle.megawatts.proofs.Laws.{sized, type-three, related-in, placed}
 use Rattle.confirming.proofs.confirming.is_unconfirmed.Statement.{statement}
 use Rattle.confirming.proofs.confirming.is_unconfirmed.Tie as tie
 

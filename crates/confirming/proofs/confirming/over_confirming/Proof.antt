@@ -8,7 +8,7 @@ use Rattle.rules.specs.Numbers.{RELINQUISH}
 use Rattle.rules.specs.Layout.{row, reqtype, relatedRow}
 use Rattle.rules.proofs.Over.{overConfirming}
 use Rattle.rules.proofs.Picks.{and-stops, and-goes}
-use Rattle.confirming.proofs.Laws.{sized, related-placed, related-in, redirect-three, span-fits, placed}
+use Rattle.megawatts.proofs.Laws.{sized, related-placed, related-in, redirect-three, span-fits, placed}
 use Rattle.confirming.proofs.confirming.over_confirming.Statement.{statement}
 use Rattle.confirming.proofs.confirming.over_confirming.Tie as tie
 

@@ -5,7 +5,7 @@ use Prim.Native.Nat.{ℕ}
 use borrow.Author.Needs.{needs}
 use Rattle.rules.specs.Layout.{row}
 use Rattle.rules.proofs.Over.{overConfirming}
-use Rattle.confirming.proofs.Laws.{in-force-by, span-lent, placed}
+use Rattle.megawatts.proofs.Laws.{in-force-by, span-lent, placed}
 use Rattle.confirming.proofs.confirming.over_confirming_own.Statement.{statement}
 use Rattle.confirming.proofs.confirming.over_confirming_own.Tie as tie
 

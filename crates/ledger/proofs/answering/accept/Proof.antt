@@ -1,7 +1,7 @@
 -- `ledger::answering::accept` meets its contract.
 use native.Mathlib.Omega.{arith}
 use Rattle.ledger.proofs.Laws.{sound-at}
-use Rattle.provider.proofs.Laws.{head-fits}
+use Rattle.layout.proofs.SoundAt.{head-fits}
 use borrow.Author.Needs.{needs}
 use Rattle.ledger.proofs.answering.accept.Statement.{statement}
 use Rattle.ledger.proofs.answering.accept.Tie as tie

@@ -6,7 +6,7 @@ use Prim.Native.Nat.{ℕ}
 use mathlib.Core.Path.{ap, _∙_}
 use Rattle.rules.specs.Act.{answered}
 use Rattle.ledger.proofs.Laws.{passes-kind, passes-last, passes-next, passes-used, passes-named, passes-small, named-answer}
-use Rattle.provider.proofs.Laws.{sized-at}
+use Rattle.layout.proofs.SoundAt.{sized-at}
 use borrow.Author.Needs.{needs}
 use Rattle.ledger.proofs.answering.accept_named.Statement.{statement}
 use Rattle.ledger.proofs.answering.accept_named.Tie as tie
@@ -22,12 +22,12 @@ word-at-requires c κs =
     let n = c .before .named .ensures in
     (sized-at i, (omega (arith, lt, n, i .sound .head .used, i .rows), lit< tt))
 
-span-total-requires : tie.Need-span-total-requires
-span-total-requires c κs =
+held-at-requires : tie.Need-held-at-requires
+held-at-requires c κs =
     let s = c .before .before .before .before .before .before in
     let lt = passes-named (s .pre .0) (s .pre .1 .0) (s .pre .1 .1) in
     let n = c .before .before .before .named .ensures in
-    (s .pre .0 .sound, (omega (arith, lt, n), lit< tt))
+    (s .pre .0 .sound, omega (arith, lt, n))
 
 apply-requires : tie.Need-apply-requires
 apply-requires c κs = let s = c .before .before .before .before .before .before .before .before in (s .pre .0 .sound, (passes-kind (s .pre .0), passes-last (s .pre .0)))
@@ -58,10 +58,10 @@ returns : tie.Need-returns
 returns c =
     let s = c .before .before .before .before .before .before .before .before .before .before .before .before .before .before .before in
     let e = c .before .before .before .before .before .before .apply .ensures in (
-      named-answer (s .args .hours) (s .args .l .now) (s .args .words .now) (s .args .a) _ (s .pre .1 .0) (s .pre .1 .1) (c .before .before .before .before .before .before .before .before .before .before .before .before .named .ensures) (c .before .before .before .before .before .before .before .before .before .before .word-at .ensures) (c .before .before .before .before .before .before .before .before .span-total .ensures) (c .before .before .word-at2 .ensures) (c .moved-by .ensures)
+      named-answer (s .args .hours) (s .args .l .now) (s .args .words .now) (s .args .a) _ (s .pre .1 .0) (s .pre .1 .1) (c .before .before .before .before .before .before .before .before .before .before .before .before .named .ensures) (c .before .before .before .before .before .before .before .before .before .before .word-at .ensures) (c .before .before .before .before .before .before .before .before .held-at .ensures) (c .before .before .word-at2 .ensures) (c .moved-by .ensures)
           ∙ ap (λ (x : List ℕ). answered (s .args .hours) (s .args .l .now) (s .args .words .now) (s .args .a) x) e,
       e,
     )
 
 pub accept-named-spec : {M : Type 1} → statement M
-accept-named-spec = tie.close (tie.spec named-requires word-at-requires span-total-requires apply-requires word-at-requires-2 moved-by-requires same-length returns)
+accept-named-spec = tie.close (tie.spec named-requires word-at-requires held-at-requires apply-requires word-at-requires-2 moved-by-requires same-length returns)

@@ -6,7 +6,7 @@ use Prim.Native.Nat.{ℕ}
 use mathlib.Core.Path.{refl, ap, _∙_}
 use Rattle.rules.specs.Act.{answered}
 use Rattle.ledger.proofs.Laws.{passes-kind, passes-last, passes-next, passes-more, submission-answer}
-use Rattle.provider.proofs.Laws.{head-fits, sized-at}
+use Rattle.layout.proofs.SoundAt.{head-fits, sized-at}
 use borrow.Author.Needs.{needs}
 use Rattle.ledger.proofs.answering.accept_submission.Statement.{statement}
 use Rattle.ledger.proofs.answering.accept_submission.Tie as tie

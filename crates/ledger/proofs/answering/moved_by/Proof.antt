@@ -1,5 +1,5 @@
 -- `ledger::answering::moved_by` meets its contract.
-use Rattle.ledger.specs.Moving.{movedBy}
+use Rattle.rules.specs.Act.{movedBy}
 use Rattle.rules.proofs.Picks.{results}
 use borrow.Author.Needs.{needs}
 use Rattle.ledger.proofs.answering.moved_by.Statement.{statement}

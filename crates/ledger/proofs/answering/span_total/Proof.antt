@@ -1,7 +1,7 @@
 -- `ledger::answering::span_total` meets its contract.
 use native.Mathlib.Omega.{arith}
 use Rattle.ledger.proofs.Laws.{span-small}
-use Rattle.provider.proofs.Laws.{placed-at}
+use Rattle.megawatts.proofs.Named.{placed-at}
 use borrow.Author.Needs.{needs}
 use Rattle.ledger.proofs.answering.span_total.Statement.{statement}
 use Rattle.ledger.proofs.answering.span_total.Tie as tie

@@ -1,10 +1,9 @@
 -- `ledger::numbering::number` meets its contract.
 use native.Mathlib.Omega.{arith}
 use Rattle.rules.specs.Act.{number}
-use Rattle.ledger.specs.Moving.{soundNumber}
 use Rattle.rules.proofs.Picks.{groups}
 use Rattle.ledger.proofs.Laws.{none-sound, sound-at}
-use Rattle.provider.proofs.Laws.{head-fits}
+use Rattle.layout.proofs.SoundAt.{head-fits}
 use borrow.Author.Needs.{needs}
 use Rattle.ledger.proofs.numbering.number.Statement.{statement}
 use Rattle.ledger.proofs.numbering.number.Tie as tie
@@ -32,7 +31,7 @@ sound-number-requires : tie.Need-sound-number-requires
 sound-number-requires c κs = sound-at (c .before .before .before .before .before .before .args .l .now) (none-sound (c .before .before .before .before .before .before .args .l .now) (c .before .before .before .before .before .before .args .a) (c .before .before .before .common-number .ensures) (c .before .before .if1 .left) (c .before .before .before .before .before .before .pre))
 
 returns-2 : tie.Need-returns-2
-unfolding number soundNumber
+unfolding number
 returns-2 c = search groups depth 16
 
 pub number-spec : {M : Type 1} → statement M

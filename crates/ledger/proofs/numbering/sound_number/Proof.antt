@@ -1,6 +1,5 @@
 -- `ledger::numbering::sound_number` meets its contract.
-use Rattle.rules.specs.Act.{lastNumber}
-use Rattle.ledger.specs.Moving.{soundNumber}
+use Rattle.rules.specs.Act.{lastNumber, soundNumber}
 use Rattle.rules.proofs.Picks.{groups, choice}
 use borrow.Author.Needs.{needs}
 use Rattle.ledger.proofs.numbering.sound_number.Statement.{statement}

@@ -12,7 +12,7 @@ use Rattle.rules.specs.Confirming.{confirm, short}
 use Rattle.rules.specs.Checks.{named, namedRow, waitsAt}
 use Rattle.rules.proofs.Passed.{ApprovePassed, approve-passed, confirm-passed}
 use Rattle.rules.proofs.Over.{overConfirming}
-use Rattle.confirming.proofs.Laws.{placed}
+use Rattle.megawatts.proofs.Laws.{placed}
 use Rattle.provider.proofs.Laws.{issued-known, at-row, Marked, marked-by, marked-placed, transfer-over, approve-confirms, approve-marks}
 use Rattle.provider.proofs.approve.approve.Statement.{statement}
 use Rattle.provider.proofs.approve.approve.Tie as tie

@@ -12,8 +12,9 @@ use Rattle.rules.specs.Confirming.{confirmNumber}
 use Rattle.rules.specs.Checks.{namedRow, noReference, notProvider, waitsAt, waitingNumber}
 use Rattle.rules.specs.Approve.{notApprovable, approveNumber}
 use Rattle.rules.proofs.Picks.{hit-by, hit-call, skip-call}
-use Rattle.confirming.proofs.Laws.{placed}
-use Rattle.provider.proofs.Laws.{then-rest, at-row, sound-at}
+use Rattle.megawatts.proofs.Laws.{placed}
+use Rattle.layout.proofs.SoundAt.{sound-at}
+use Rattle.provider.proofs.Laws.{then-rest, at-row}
 use Rattle.provider.proofs.approve.approve_number.Statement.{statement}
 use Rattle.provider.proofs.approve.approve_number.Tie as tie
 

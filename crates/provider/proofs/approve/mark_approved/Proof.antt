@@ -2,7 +2,7 @@
 use mathlib.Core.Path.{_∙_}
 use native.Mathlib.Omega.{arith}
 use borrow.Author.Needs.{needs}
-use Rattle.confirming.proofs.Laws.{own-words, placed}
+use Rattle.megawatts.proofs.Laws.{own-words, placed}
 use Rattle.provider.proofs.Laws.{raised-by}
 use Rattle.provider.proofs.approve.mark_approved.Statement.{statement}
 use Rattle.provider.proofs.approve.mark_approved.Tie as tie

@@ -6,7 +6,7 @@ use Rattle.rules.specs.Layout.{row, reqtype}
 use Rattle.rules.specs.Sound.{transfer}
 use Rattle.rules.specs.Approve.{notApprovable}
 use Rattle.rules.proofs.Picks.{or-stops, or-goes}
-use Rattle.confirming.proofs.Laws.{placed}
+use Rattle.megawatts.proofs.Laws.{placed}
 use Rattle.provider.proofs.approve.not_approvable.Statement.{statement}
 use Rattle.provider.proofs.approve.not_approvable.Tie as tie
 

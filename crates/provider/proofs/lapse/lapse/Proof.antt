@@ -10,7 +10,7 @@ use Rattle.rules.specs.Confirming.{confirm, short}
 use Rattle.rules.specs.Checks.{named, namedRow, waitsAt}
 use Rattle.rules.proofs.Passed.{LapsePassed, lapse-passed, confirm-passed}
 use Rattle.rules.proofs.Over.{overConfirming}
-use Rattle.confirming.proofs.Laws.{placed}
+use Rattle.megawatts.proofs.Laws.{placed}
 use Rattle.provider.proofs.Laws.{issued-known, at-row, named-used, lapse-confirms, lapse-retracts, over-lapse-confirms}
 use Rattle.provider.proofs.lapse.lapse.Statement.{statement}
 use Rattle.provider.proofs.lapse.lapse.Tie as tie

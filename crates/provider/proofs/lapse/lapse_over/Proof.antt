@@ -8,7 +8,7 @@ use Rattle.rules.specs.Megawatts.{inForce}
 use Rattle.rules.specs.Checks.{named, namedRow, waitsAt}
 use Rattle.rules.proofs.Passed.{LapsePassed, lapse-passed}
 use Rattle.rules.proofs.Over.{overConfirming}
-use Rattle.confirming.proofs.Laws.{placed}
+use Rattle.megawatts.proofs.Laws.{placed}
 use Rattle.provider.proofs.Laws.{issued-known, at-row, named-used, over-lapse-confirms, over-lapse-retracts}
 use Rattle.provider.proofs.lapse.lapse_over.Statement.{statement}
 use Rattle.provider.proofs.lapse.lapse_over.Tie as tie

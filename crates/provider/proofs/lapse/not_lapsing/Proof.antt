@@ -8,7 +8,7 @@ use Rattle.rules.specs.Pick.{_among_}
 use Rattle.rules.specs.Layout.{row, status}
 use Rattle.rules.specs.Lapse.{notLapsing}
 use Rattle.rules.proofs.Picks.{or-stops, or-goes}
-use Rattle.confirming.proofs.Laws.{placed}
+use Rattle.megawatts.proofs.Laws.{placed}
 use Rattle.provider.proofs.lapse.not_lapsing.Statement.{statement}
 use Rattle.provider.proofs.lapse.not_lapsing.Tie as tie
 

@@ -5,8 +5,8 @@ use native.Mathlib.Omega.{arith}
 use lib.Dec.{ltb}
 use Rattle.rules.specs.Layout.{clock}
 use Rattle.rules.specs.Lapse.{tooEarly}
-use Rattle.confirming.proofs.Laws.{placed}
-use Rattle.provider.proofs.Laws.{head-placed}
+use Rattle.megawatts.proofs.Laws.{placed}
+use Rattle.megawatts.proofs.Named.{head-placed}
 use Rattle.provider.proofs.lapse.too_early.Statement.{statement}
 use Rattle.provider.proofs.lapse.too_early.Tie as tie
 

@@ -4,7 +4,7 @@ use Prim.Native.Nat.{ℕ}
 use borrow.Author.Needs.{needs}
 use Rattle.rules.specs.Numbers.{approved}
 use Rattle.rules.specs.Layout.{hasFlag}
-use Rattle.confirming.proofs.Laws.{placed}
+use Rattle.megawatts.proofs.Laws.{placed}
 use Rattle.provider.proofs.named.is_approved.Statement.{statement}
 use Rattle.provider.proofs.named.is_approved.Tie as tie
 

@@ -1,7 +1,7 @@
 -- `provider::named::row_named` meets its contract.
 use native.Mathlib.Omega.{arith}
 use borrow.Author.Needs.{needs}
-use Rattle.provider.proofs.Laws.{issued-range, placed-at}
+use Rattle.megawatts.proofs.Named.{issued-range, placed-at}
 use Rattle.provider.proofs.named.row_named.Statement.{statement}
 use Rattle.provider.proofs.named.row_named.Tie as tie
 

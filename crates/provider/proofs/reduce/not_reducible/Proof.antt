@@ -6,7 +6,7 @@ use lib.Dec.{eqb}
 use Rattle.rules.specs.Numbers.{RELINQUISH}
 use Rattle.rules.specs.Reduce.{notReducible}
 use Rattle.rules.proofs.Picks.{or-stops, or-goes}
-use Rattle.confirming.proofs.Laws.{placed}
+use Rattle.megawatts.proofs.Laws.{placed}
 use Rattle.provider.proofs.reduce.not_reducible.Statement.{statement}
 use Rattle.provider.proofs.reduce.not_reducible.Tie as tie
 

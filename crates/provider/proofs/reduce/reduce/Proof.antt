@@ -11,7 +11,8 @@ use Rattle.rules.specs.Megawatts.{reduce}
 use Rattle.rules.specs.Checks.{named, profile}
 use Rattle.rules.specs.Reduce.{reduceAfter}
 use Rattle.rules.proofs.Passed.{ReducePassed, reduce-passed, profile-length}
-use Rattle.provider.proofs.Laws.{issued-known, profile-lent}
+use Rattle.checks.proofs.Profiles.{profile-lent}
+use Rattle.provider.proofs.Laws.{issued-known}
 use Rattle.provider.proofs.reduce.reduce.Statement.{statement}
 use Rattle.provider.proofs.reduce.reduce.Tie as tie
 

@@ -9,7 +9,8 @@ use Rattle.rules.specs.Layout.{row, spanHours}
 use Rattle.rules.specs.Checks.{namedRow, noReference, notProvider, badProfile}
 use Rattle.rules.specs.Reduce.{notReducible, reducesTooMuch, reduceNumber}
 use Rattle.rules.proofs.Picks.{hit-call, skip-call}
-use Rattle.provider.proofs.Laws.{then-rest, at-row, sound-at}
+use Rattle.layout.proofs.SoundAt.{sound-at}
+use Rattle.provider.proofs.Laws.{then-rest, at-row}
 use Rattle.provider.proofs.reduce.reduce_number.Statement.{statement}
 use Rattle.provider.proofs.reduce.reduce_number.Tie as tie
 

@@ -11,8 +11,9 @@ use Rattle.rules.specs.Layout.{row, spanHours, available}
 use Rattle.rules.specs.Checks.{profile}
 use Rattle.rules.specs.Reduce.{reducesTooMuch}
 use Rattle.rules.proofs.Passed.{ProfilePassed, profile-passed, profile-length}
-use Rattle.confirming.proofs.Laws.{sized, in-rows, span-fits, placed}
-use Rattle.provider.proofs.Laws.{profile-lent, covers-own}
+use Rattle.megawatts.proofs.Laws.{sized, in-rows, span-fits, placed}
+use Rattle.checks.proofs.Profiles.{profile-lent}
+use Rattle.provider.proofs.Laws.{covers-own}
 use Rattle.provider.proofs.reduce.reduces_too_much.Statement.{statement}
 use Rattle.provider.proofs.reduce.reduces_too_much.Tie as tie
 

@@ -2,7 +2,7 @@
 use borrow.Author.Tests.{eq-eqb, ne-eqb}
 use Rattle.rules.specs.SellerStatus.{annulsConfirmed}
 use Rattle.rules.proofs.Picks.{and-goes}
-use Rattle.confirming.proofs.Laws.{placed}
+use Rattle.megawatts.proofs.Laws.{placed}
 use Rattle.seller.proofs.number.annuls_confirmed.Statement.{statement}
 use Rattle.seller.proofs.number.annuls_confirmed.Tie as tie
 

@@ -5,7 +5,7 @@ use Prim.Native.Nat.{ℕ}
 use lib.Dec.{lit<}
 use borrow.Author.Needs.{needs}
 use Rattle.words.specs.Lists.{equal}
-use Rattle.confirming.proofs.Laws.{span-lent}
+use Rattle.megawatts.proofs.Laws.{span-lent}
 use Rattle.seller.proofs.number.equals_requested.Statement.{statement}
 use Rattle.seller.proofs.number.equals_requested.Tie as tie
 

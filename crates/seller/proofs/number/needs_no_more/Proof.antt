@@ -8,7 +8,7 @@ use Rattle.rules.specs.Numbers.{preconfirmed, approved}
 use Rattle.rules.specs.Layout.{row, flags, hasFlag}
 use Rattle.rules.specs.Sound.{transfer}
 use Rattle.rules.proofs.Picks.{and-goes, or-stops, or-goes, stops}
-use Rattle.confirming.proofs.Laws.{placed}
+use Rattle.megawatts.proofs.Laws.{placed}
 use Rattle.seller.proofs.number.needs_no_more.Statement.{statement}
 use Rattle.seller.proofs.number.needs_no_more.Tie as tie
 

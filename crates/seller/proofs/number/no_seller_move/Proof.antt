@@ -2,7 +2,7 @@
 use mathlib.Core.Path.{ap}
 use mathlib.Core.Bool.{not}
 use Rattle.rules.specs.SellerStatus.{noSellerMove}
-use Rattle.confirming.proofs.Laws.{placed}
+use Rattle.megawatts.proofs.Laws.{placed}
 use Rattle.seller.proofs.number.no_seller_move.Statement.{statement}
 use Rattle.seller.proofs.number.no_seller_move.Tie as tie
 

@@ -3,14 +3,14 @@ use mathlib.Core.Path.{sym, ap, _∙_}
 use mathlib.Core.Bool.{not}
 use borrow.Author.Needs.{needs}
 use borrow.Author.Tests.{eq-eqb, ne-eqb}
+use Rattle.rules.specs.SellerStatus.{unfitOffer}
 use Rattle.rules.proofs.Picks.{hit-by, skip, and-stops, and-goes}
-use Rattle.confirming.proofs.Laws.{placed}
-use Rattle.seller.specs.Offer.{unfit}
+use Rattle.megawatts.proofs.Laws.{placed}
 use Rattle.seller.proofs.number.unfit_offer.Statement.{statement}
 use Rattle.seller.proofs.number.unfit_offer.Tie as tie
 
 pub unfit-offer-spec : {M : Type 1} → statement M
-unfolding unfit
+unfolding unfitOffer
 unfit-offer-spec =
     tie.close
     (tie.spec

@@ -1,42 +1,72 @@
 -- `seller::offer::offer` meets its contract.
 use mathlib.Core.Path.{_≡_, sym, ap, subst, _∙_}
-use mathlib.Core.List.{List, _++_}
-use Prim.Native.Nat.{ℕ, _≤_}
+use mathlib.Core.List.{List}
+use Prim.Native.Nat.{ℕ, _+_}
 use native.Mathlib.Omega.{arith}
-use lib.ListN.{length, take, drop, replicate}
-use lib.Seq.{length-take-le}
 use borrow.Author.Needs.{needs}
-use Rattle.words.proofs.Laws.{prefix-long, prefix-is}
-use Rattle.rules.specs.Numbers.{mostHours}
-use Rattle.rules.specs.Layout.{row}
-use Rattle.rules.specs.SellerStatus.{grantedAfter}
-use Rattle.seller.specs.Offer.{offerWith, Offering}
+use borrow.Author.Tests.{not-true, not-false}
+use Rattle.rules.specs.Pick.{when}
+use Rattle.rules.specs.Layout.{window, clock, row, onRow}
+use Rattle.rules.specs.Confirming.{confirm, short}
+use Rattle.rules.specs.Checks.{namedRow}
+use Rattle.rules.specs.SellerStatus.{grantedAfter, goesOn, offered, offerAfter}
+use Rattle.rules.specs.declared.Action.{Action}
+use Rattle.rules.proofs.Picks.{hit-by, skip}
+use Rattle.rules.proofs.Over.{overConfirming}
+use Rattle.megawatts.specs.Named.{Named}
+use Rattle.megawatts.proofs.Named.{head-placed}
+use Rattle.seller.specs.Offer.{Confirms}
 use Rattle.seller.proofs.offer.offer.Statement.{statement}
 use Rattle.seller.proofs.offer.offer.Tie as tie
 
-abbrev S : tie.After-copy-granted → tie.Start
-S c = c .before .before .before .before .before .before .before
+-- by the row n that is named
+offer-by : {l : List ℕ} {R H n : ℕ} {a : Action} → Named l R H a n → (w : List ℕ) {v : List ℕ}
+    → v ≡ when (goesOn a (row H l n)) (confirm H n (grantedAfter H w a (row H l n))) (onRow H n (offered H (clock l + window l) a (grantedAfter H w a (row H l n))) l)
+    → v ≡ offerAfter H l a (grantedAfter H w a (namedRow H l a))
+unfolding offerAfter
+offer-by {l} {R} {H} {n} {a} m w e =
+    e ∙ ap (λ (k : ℕ). when (goesOn a (row H l k)) (confirm H k (grantedAfter H w a (row H l k))) (onRow H k (offered H (clock l + window l) a (grantedAfter H w a (row H l k))) l)) (m .is)
 
-abbrev count : tie.After-copy-granted → ℕ
-count c = c .before .before .before .count-of .result
+abbrev S : tie.After-confirm-own-arg → tie.Start
+S c = c .before .before .before .before .before .before .before .before .before .before .before .before
 
-long : (c : tie.After-copy-granted) → count c ≤ length (c .copy-granted .last .0 ++ drop (count c) (replicate mostHours 0))
-long c = prefix-long (replicate mostHours 0) (c .copy-granted .last .0) (count c) (c .copy-granted .kept .0) (omega arith)
+abbrev mw : tie.After-confirm-own-arg → List ℕ
+mw c = grantedAfter (S c .args .hours) (S c .args .words .now) (S c .args .a) (row (S c .args .hours) (S c .args .l .now) (S c .args .n))
 
--- the copy is what is granted after the move
-whole : (c : tie.After-copy-granted) → take (count c) (c .copy-granted .last .0 ++ drop (count c) (replicate mostHours 0)) ≡ grantedAfter (S c .args .hours) (S c .args .words .now) (S c .args .a) (row (S c .args .hours) (S c .args .l .now) (S c .args .n))
-whole c = prefix-is (replicate mostHours 0) (c .copy-granted .last .0) (count c) (c .copy-granted .kept .0) (omega arith) ∙ c .copy-granted .ensures
+confirms : (c : tie.After-confirm-own-arg) → Confirms (c .before .before .before .before .put-offer .last .0) (S c .args .rows) (S c .args .hours) (S c .args .n) (mw c)
+confirms c =
+    subst (λ (x : List ℕ). Confirms x (S c .args .rows) (S c .args .hours) (S c .args .n) (mw c)) (sym (c .before .before .before .before .put-offer .ensures))
+    (S c .pre .confirms (sym (c .before .before .before .before .before .before .goes-on .ensures) ∙ not-false _ (c .before .if1 .left)))
 
 pub offer-spec : {M : Type 1} → statement M
 offer-spec =
     tie.close
     (tie.spec
-    (λ c κs. c .before .before .before .pre .0 .placed)
+    (λ c. omega (arith, head-placed (c .before .before .before .pre .named .placed)))
+    (λ c. omega (arith, head-placed (c .before .before .before .before .pre .named .placed)))
+    (λ c. let h = c .before .before .before .before .pre .named .placed .formed .head in omega (arith, h .clock, h .window .1))
+    (λ c κs. c .before .before .before .before .before .pre .named .placed)
+    (λ c κs. let s = c .before .before .before .before .before .before .before in (s .pre .named .placed, (s .pre .suits, s .pre .price)))
     (λ c. search needs)
-    (λ c. sym (length-take-le _ _ (omega arith)))
-    (λ c κs. (c .before .before .before .before .before .before .pre .0 .placed, (c .before .before .before .before .before .before .pre .1, length-take-le _ _ (omega arith) ∙ c .before .before .count-of .ensures .0)))
-    (λ c. long (c .before .before))
-    (λ c. sym (length-take-le _ _ (long (c .before .before .before))))
-    (λ c κs. let s = S (c .before .before .before) in subst (λ (v : List ℕ). Offering (s .args .l .now) (s .args .rows) (s .args .hours) (s .args .n) (s .args .a) v) (sym (whole (c .before .before .before))) (s .pre .0))
+    (λ c.
+    let s = c .before .before .before .before .before .before .before .before .before .before .before in
+    offer-by (s .pre .named) (s .args .words .now)
+    (skip _ _ _ _ (sym (c .before .before .before .before .before .goes-on .ensures) ∙ not-true _ (c .if1 .taken)) (c .before .before .before .put-offer .ensures)))
+    (λ c κs.
+    let k = confirms c in
+    let l′ = c .before .before .before .before .put-offer .last .0 in (
+      k .placed,
+      (
+        ap (λ (v : List ℕ). short (S c .args .hours) l′ (S c .args .n) v) (k .force) ∙ k .short,
+        ap (λ (v : List ℕ). overConfirming (S c .args .hours) l′ (S c .args .n) v) (k .force) ∙ k .over,
+      ),
+    ))
     (λ c. search needs)
-    (λ c. let s = S (c .before .before .before .before .before .before) in c .before .before .offer-with .ensures ∙ ap (λ (v : List ℕ). offerWith (s .args .hours) (s .args .l .now) (s .args .n) (s .args .a) v) (whole (c .before .before .before .before .before .before))))
+    (λ c.
+    let t = c .before .before .before in
+    let s = S t in
+    offer-by (s .pre .named) (s .args .words .now)
+    (hit-by _ _ _ _ (sym (t .before .before .before .before .before .before .goes-on .ensures) ∙ not-false _ (t .before .if1 .left))
+    (c .before .before .confirm-own .ensures
+    ∙ ap (λ (v : List ℕ). confirm (s .args .hours) (s .args .n) v (t .before .before .before .before .put-offer .last .0)) (confirms t .force)
+    ∙ ap (λ (x : List ℕ). confirm (s .args .hours) (s .args .n) (mw t) x) (t .before .before .before .before .put-offer .ensures)))))

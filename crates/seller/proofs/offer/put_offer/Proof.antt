@@ -1,14 +1,16 @@
 -- `seller::offer::put_offer` meets its contract.
-use mathlib.Core.Path.{_≡_, ap}
+use mathlib.Core.Path.{sym, ap, subst, _∙_}
 use mathlib.Core.List.{List}
 use Prim.Native.Nat.{ℕ, _+_, _-_}
 use native.Mathlib.Omega.{arith}
-use lib.ListN.{getD, take, drop}
+use lib.ListN.{take, drop}
 use borrow.Author.Needs.{needs}
-use Rattle.rules.specs.Layout.{row, rowSize, start, flags}
+use Rattle.rules.specs.Layout.{row, rowSize}
+use Rattle.rules.specs.SellerStatus.{grantedAfter, offered}
+use Rattle.rules.proofs.SoundFacts.{SoundWords}
 use Rattle.layout.proofs.Lent.{row-lent, row-lent-length, row-back}
-use Rattle.confirming.proofs.Laws.{sized, in-rows, own-words, span-fits}
-use Rattle.seller.specs.Offer.{offeredWith}
+use Rattle.megawatts.specs.Named.{Suits}
+use Rattle.megawatts.proofs.Laws.{sized, in-rows, own-words}
 use Rattle.seller.proofs.offer.put_offer.Statement.{statement}
 use Rattle.seller.proofs.offer.put_offer.Tie as tie
 
@@ -28,14 +30,20 @@ put-offer-spec =
     let t = c .before in
     let s = c .before .before .before .before in
     let z = sized (s .pre .0) in
-    let w = own-words (s .pre .0) in
-    let e = row-lent z (t .row-at .ensures) in
-    let f : getD (take (t .row-at .result + rowSize (s .args .hours) - t .row-at .result) (drop (t .row-at .result) (s .args .l .now))) 5 0 ≡ start (row (s .args .hours) (s .args .l .now) (s .args .n)) = ap (λ (r : List ℕ). getD r 5 0) e in
-    let g : getD (take (t .row-at .result + rowSize (s .args .hours) - t .row-at .result) (drop (t .row-at .result) (s .args .l .now))) 7 0 ≡ flags (row (s .args .hours) (s .args .l .now) (s .args .n)) = ap (λ (r : List ℕ). getD r 7 0) e in
-    (record { long = row-lent-length z (t .row-at .ensures); fits = omega (arith, f, span-fits (s .pre .0) (s .args .mw .now) (s .pre .1)) }, (z .hours, omega (arith, g, w .flags))))
+    let e = sym (row-lent z (t .row-at .ensures)) in (
+      (row-lent-length z (t .row-at .ensures), z .hours),
+      (
+        subst (λ (r : List ℕ). SoundWords (s .args .hours) r) e (own-words (s .pre .0)),
+        (subst (λ (r : List ℕ). Suits (s .args .words .now) (s .args .a) r) e (s .pre .1 .0), s .pre .1 .1),
+      ),
+    ))
     (λ c. search needs)
     (λ c.
     let g = c .before .before in
     let t = c .before .before .before .before in
     let s = c .before .before .before .before .before .before .before in
-    row-back (sized (s .pre .0)) (t .row-at .ensures) (offeredWith (s .args .hours) (s .args .expires) (s .args .a) (s .args .mw .now)) (g .offer-row .last .0) (g .offer-row .kept .0) (g .offer-row .ensures)))
+    let z = sized (s .pre .0) in
+    let at = t .row-at .result in
+    row-back z (t .row-at .ensures) (offered (s .args .hours) (s .args .expires) (s .args .a) (grantedAfter (s .args .hours) (s .args .words .now) (s .args .a) (row (s .args .hours) (s .args .l .now) (s .args .n)))) (g .offer-row .last .0) (g .offer-row .kept .0)
+    (g .offer-row .ensures
+    ∙ ap (λ (r : List ℕ). offered (s .args .hours) (s .args .expires) (s .args .a) (grantedAfter (s .args .hours) (s .args .words .now) (s .args .a) r) (take (at + rowSize (s .args .hours) - at) (drop at (s .args .l .now)))) (row-lent z (t .row-at .ensures)))))

@@ -8,19 +8,19 @@ use Rattle.stamp.proofs.calendar.month_of.Statement.{statement}
 use Rattle.stamp.proofs.calendar.month_of.Tie as tie
 
 abbrev Inv-loop : tie.InvT-loop
-Inv-loop day low₀ high₀ counter₀ low high counter = Halving day low high counter
+Inv-loop table day low₀ high₀ counter₀ low high counter = Halving day low high counter
 
 abbrev μ-loop : tie.MeasureT-loop
-μ-loop day low₀ high₀ counter₀ low high counter = 11 - counter
+μ-loop table day low₀ high₀ counter₀ low high counter = 11 - counter
 
 loop-holds : tie.Need-loop-holds Inv-loop μ-loop
-loop-holds c = halving-start _ (c .pre)
+loop-holds c = halving-start _ (c .pre .1)
 
 add-middle : tie.Need-add-middle Inv-loop μ-loop
 add-middle c = omega arith
 
 days-before-requires : tie.Need-days-before-requires Inv-loop μ-loop
-days-before-requires c κs = omega arith
+days-before-requires c κs = (c .before .before .pre .0, omega arith)
 
 add-counter : tie.Need-add-counter Inv-loop μ-loop
 add-counter c = omega arith
@@ -39,7 +39,7 @@ loop-again c =
 
 returns : tie.Need-returns Inv-loop μ-loop
 returns c =
-    record { is = halving-done (c .before .before .pre) (c .before .loop .inv) (omega arith); begins = c .before .loop .inv .begins; small = omega arith }
+    record { is = halving-done (c .before .before .pre .1) (c .before .loop .inv) (omega arith); begins = c .before .loop .inv .begins; small = omega arith }
 
 pub month-of-spec : {M : Type 1} → statement M
 month-of-spec =

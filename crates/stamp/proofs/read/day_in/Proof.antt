@@ -23,11 +23,11 @@ sub-result c = search needs
 
 add-result : tie.Need-add-result
 unfolding dayIn
-add-result c = omega (arith, day-below (c .before .before .before .before .pre))
+add-result c = omega (arith, day-below (c .before .before .before .before .pre .1))
 
 returns : tie.Need-returns
 unfolding dayIn
-returns c = record { is = omega arith; small = omega (arith, day-below (c .before .before .before .before .pre)) }
+returns c = record { is = omega arith; small = omega (arith, day-below (c .before .before .before .before .pre .1)) }
 
 pub day-in-spec : {M : Type 1} → statement M
 day-in-spec =

@@ -1,7 +1,8 @@
 -- `submission::checking::bad_parties` meets its contract.
 use native.Mathlib.Omega.{arith}
 use borrow.Author.Needs.{needs}
-use Rattle.submission.proofs.Laws.{head-in, parties}
+use Rattle.layout.proofs.SoundAt.{head-fits}
+use Rattle.submission.proofs.Laws.{parties}
 use Rattle.submission.proofs.checking.bad_parties.Statement.{statement}
 use Rattle.submission.proofs.checking.bad_parties.Tie as tie
 
@@ -10,7 +11,7 @@ bad-parties-spec =
     tie.close
     (tie.spec
     (λ c κs. search needs)
-    (λ c. omega (arith, head-in (c .before .before .before .pre)))
+    (λ c. omega (arith, head-fits (c .before .before .before .pre)))
     (λ c κs. search needs)
     (λ c κs. search needs)
     (λ c.
