@@ -261,6 +261,49 @@ fn growth() {
     }
 }
 
+/// A stamp of the hundred years, by its place among 1,000.
+fn stamp_at(place: u32) -> (u32, u32) {
+    (40_000 + place * 3_155_000, place % 9)
+}
+
+/// (f) Stamps written and read, 1,000 in a round, against the model. No goal is set.
+fn stamps() {
+    let stamps: Vec<[u8; 16]> = (0..1_000)
+        .map(|place| {
+            let (second, zone) = stamp_at(place);
+            let mut bytes = [0; 16];
+            assert_eq!(calls::write_stamp(&mut bytes, second, zone), 0);
+            bytes
+        })
+        .collect();
+    let written = side_by_side(
+        61,
+        &mut [0; 16],
+        |bytes| {
+            for (second, zone) in (0..1_000).map(stamp_at) {
+                assert_eq!(calls::write_stamp(bytes, black_box(second), zone), 0);
+            }
+        },
+        |bytes| {
+            for (second, zone) in (0..1_000).map(stamp_at) {
+                assert_eq!(model::write_stamp(bytes, black_box(second), zone), 0);
+            }
+        },
+    );
+    let read = side_by_side(
+        61,
+        &mut { stamps },
+        |stamps| assert!(stamps.iter().all(|bytes| calls::read_stamp(black_box(bytes)).0 == 0)),
+        |stamps| assert!(stamps.iter().all(|bytes| model::read_stamp(black_box(bytes)).is_ok())),
+    );
+    println!("\n| (f) a stamp | library | the model | ratio |");
+    println!("|---|---|---|---|");
+    for (name, rounds) in [("written", written), ("read", read)] {
+        let (library, other) = (rounds.library() / 1_000.0, rounds.other() / 1_000.0);
+        println!("| {name} | {} | {} | {:.1} |", time(library), time(other), rounds.ratio());
+    }
+}
+
 fn main() {
     println!("| what | library | against | time | ratio | at most | met |");
     println!("|---|---|---|---|---|---|---|");
@@ -269,4 +312,5 @@ fn main() {
     batch_of_reductions();
     mixed_actions();
     growth();
+    stamps();
 }

@@ -172,7 +172,7 @@ fn confirm_relinquish(l: &mut [u32], rows: usize, hours: usize, n: usize, mw: &[
     empty(l, rows, hours, n, start, mw);
 }
 
-pub fn confirm(l: &mut [u32], rows: usize, hours: usize, n: usize, mw: &[u32])
+fn confirm(l: &mut [u32], rows: usize, hours: usize, n: usize, mw: &[u32])
     requires { ⌜ Placed (now l) rows hours n ⌝ }
     requires { ⌜ length (now mw) ≡ spanHours (row hours (now l) n) ⌝ }
     requires { ⌜ short hours (now l) n (now mw) ≡ false ⌝ }
@@ -301,10 +301,7 @@ pub fn over_confirming(l: &[u32], rows: usize, hours: usize, n: usize, mw: &[u32
     full_at(l, rows, hours, above, start, mw)
 }
 
-// A span of a day, with hours to spare.
-const SHORT_SPAN: usize = 32;
-
-// The same with the row's own profile in force. The writing has a copy of it, since the ledger is written while it is read: a short span's in a buffer of its own, which is sooner cleared.
+// The same with the row's own profile in force, as every kind confirms.
 
 pub fn confirm_own_number(l: &[u32], rows: usize, hours: usize, n: usize, approved: bool) -> u32
     requires { ⌜ Placed (now l) rows hours n ⌝ }
@@ -326,6 +323,7 @@ pub fn over_confirming_own(l: &[u32], rows: usize, hours: usize, n: usize) -> bo
     over_confirming(l, rows, hours, n, &l[from..from + count])
 }
 
+// The writing has a copy of the profile, since the ledger is written while it is read.
 fn confirm_copied(l: &mut [u32], rows: usize, hours: usize, n: usize, own: &mut [u32])
     requires { ⌜ Placed (now l) rows hours n ⌝ }
     requires { ⌜ length (now own) ≡ spanHours (row hours (now l) n) ⌝ }
@@ -336,6 +334,9 @@ fn confirm_copied(l: &mut [u32], rows: usize, hours: usize, n: usize, own: &mut 
     copy_in_force(own, &l[..], rows, hours, n);
     confirm(l, rows, hours, n, &own[..]);
 }
+
+// A day's hours, with some to spare: the copy of a short span has a buffer that is soon cleared.
+const SHORT_SPAN: usize = 32;
 
 fn confirm_short(l: &mut [u32], rows: usize, hours: usize, n: usize, count: usize)
     requires { ⌜ Placed (now l) rows hours n ⌝ }

@@ -18,7 +18,7 @@ use Rattle.rules.specs.Numbers.{CONFIRMED, ANNULLED, NONFIRM-REDIRECT, R
 use Rattle.rules.specs.Layout.{standing}
 use Rattle.rules.specs.Sound.{original, transfer, redirect}
 use Rattle.rules.specs.Checks.{profile}
-use Rattle.rules.specs.Tally.{Entry, Tally, reducedSum, redirectedSum, relinquishedSum, put, grantedIn, added, addTo, opened, changed, sumOf, booked, moved, changedIn, counts, feed}
+use Rattle.rules.specs.Tally.{Entry, Tally, reducedSum, redirectedSum, relinquishedSum, put, grantedIn, added, addTo, opened, changed, sumOf, returned, booked, moved, changedIn, counts, feed}
 use Rattle.rules.specs.declared.Action.{Action}
 use Rattle.rules.specs.declared.Answer.{Answer}
 use Rattle.rules.proofs.View.{outOf, redOf}
@@ -76,13 +76,17 @@ add-like r k more t q = go (ℕ-discrete q r)
         (like-trans (like-self (put-same r (added k more (t r)) t)) (added-like k more (t r)))
     go (no ne) = like-self (put-other r (added k more (t r)) t q ne)
 
+returned-like : (e : Entry) (more : ℕ → ℤ) (t : Tally) (q : ℕ) → Like (returned e more t q) (t q)
+unfolding returned
+returned-like e more t q = like-trans (add-like _ _ _ _ q) (add-like _ _ more t q)
+
 pub booked-like : (e : Entry) (more : ℕ → ℤ) (t : Tally) (q : ℕ) → Like (booked e more t q) (t q)
 unfolding booked
 booked-like e more t q = go (original (e .reqtype)) (eqb (e .reqtype) RELINQUISH)
   where
-    go : (b c : Bool) → Like (pick b t (pick c (addTo (t (e .related) .related) redirectedSum (λ h. negℤ (more h)) (addTo (e .related) relinquishedSum more t)) (addTo (e .related) (sumOf (e .reqtype)) more t)) q) (t q)
+    go : (b c : Bool) → Like (pick b t (pick c (returned e more t) (addTo (e .related) (sumOf (e .reqtype)) more t)) q) (t q)
     go true c = like-self refl
-    go false true = like-trans (add-like _ redirectedSum (λ h. negℤ (more h)) (addTo (e .related) relinquishedSum more t) q) (add-like (e .related) relinquishedSum more t q)
+    go false true = returned-like e more t q
     go false false = add-like (e .related) (sumOf (e .reqtype)) more t q
 
 -- ---- sums
@@ -169,26 +173,26 @@ module _ (t : Tally) (ty p h x : ℕ) (more : ℕ → ℤ) where
 booked-top : (e : Entry) (more : ℕ → ℤ) (t : Tally) → 1 ≤ e .reqtype → e .reqtype ≤ 2 → booked e more t ≡ t
 unfolding booked
 booked-top e more t least most =
-    ap (λ (b : Bool). pick b t (pick (eqb (e .reqtype) RELINQUISH) (addTo (t (e .related) .related) redirectedSum (λ h. negℤ (more h)) (addTo (e .related) relinquishedSum more t)) (addTo (e .related) (sumOf (e .reqtype)) more t)))
+    ap (λ (b : Bool). pick b t (pick (eqb (e .reqtype) RELINQUISH) (returned e more t) (addTo (e .related) (sumOf (e .reqtype)) more t)))
     (original-type (e .reqtype) least most)
 
 booked-past : (e : Entry) (more : ℕ → ℤ) (t : Tally) → 3 ≤ e .reqtype
-    → booked e more t ≡ pick (eqb (e .reqtype) RELINQUISH) (addTo (t (e .related) .related) redirectedSum (λ h. negℤ (more h)) (addTo (e .related) relinquishedSum more t)) (addTo (e .related) (sumOf (e .reqtype)) more t)
+    → booked e more t ≡ pick (eqb (e .reqtype) RELINQUISH) (returned e more t) (addTo (e .related) (sumOf (e .reqtype)) more t)
 unfolding booked
 booked-past e more t least =
-    ap (λ (b : Bool). pick b t (pick (eqb (e .reqtype) RELINQUISH) (addTo (t (e .related) .related) redirectedSum (λ h. negℤ (more h)) (addTo (e .related) relinquishedSum more t)) (addTo (e .related) (sumOf (e .reqtype)) more t)))
+    ap (λ (b : Bool). pick b t (pick (eqb (e .reqtype) RELINQUISH) (returned e more t) (addTo (e .related) (sumOf (e .reqtype)) more t)))
     (derived-type (e .reqtype) least)
 
 booked-child : (e : Entry) (more : ℕ → ℤ) (t : Tally) → 3 ≤ e .reqtype → e .reqtype ≢ RELINQUISH → booked e more t ≡ addTo (e .related) (part (e .reqtype)) more t
 booked-child e more t least ne =
     booked-past e more t least
-    ∙ ap (λ (b : Bool). pick b (addTo (t (e .related) .related) redirectedSum (λ h. negℤ (more h)) (addTo (e .related) relinquishedSum more t)) (addTo (e .related) (sumOf (e .reqtype)) more t)) (ne-eqb (e .reqtype) RELINQUISH ne)
+    ∙ ap (λ (b : Bool). pick b (returned e more t) (addTo (e .related) (sumOf (e .reqtype)) more t)) (ne-eqb (e .reqtype) RELINQUISH ne)
     ∙ ap (λ (k : ℕ). addTo (e .related) k more t) (sum-part (e .reqtype))
 
-booked-give : (e : Entry) (more : ℕ → ℤ) (t : Tally) → e .reqtype ≡ RELINQUISH → booked e more t ≡ addTo (t (e .related) .related) redirectedSum (λ h. negℤ (more h)) (addTo (e .related) relinquishedSum more t)
+booked-give : (e : Entry) (more : ℕ → ℤ) (t : Tally) → e .reqtype ≡ RELINQUISH → booked e more t ≡ returned e more t
 booked-give e more t q =
     booked-past e more t (omega arith)
-    ∙ ap (λ (b : Bool). pick b (addTo (t (e .related) .related) redirectedSum (λ h. negℤ (more h)) (addTo (e .related) relinquishedSum more t)) (addTo (e .related) (sumOf (e .reqtype)) more t)) (eq-eqb (e .reqtype) RELINQUISH q)
+    ∙ ap (λ (b : Bool). pick b (returned e more t) (addTo (e .related) (sumOf (e .reqtype)) more t)) (eq-eqb (e .reqtype) RELINQUISH q)
 
 -- of an entry of type ty, related to ref
 module _ (e : Entry) (more : ℕ → ℤ) (t : Tally) (ty ref h x : ℕ) (type : e .reqtype ≡ ty) (relation : e .related ≡ ref) where
@@ -219,7 +223,7 @@ module _ (e : Entry) (more : ℕ → ℤ) (t : Tally) (ty ref h x : ℕ) (type :
   -- type 8: the redirect's entry is of type 5, related to ref′
   pub give-out : ty ≡ RELINQUISH → 1 ≤ ref → (ty′ ref′ : ℕ) → t ref .reqtype ≡ ty′ → ty′ ≡ NONFIRM-REDIRECT → t ref .related ≡ ref′ → 1 ≤ ref′ → more h ≡ pos x → (k n : ℕ)
       → outOf (booked e more t) h k n ≡ outOf t h k n +ℤ pos (share k ty ref n x) +ℤ negℤ (pos (share k ty′ ref′ n x))
-  unfolding part
+  unfolding part returned
   give-out is8 one ty′ ref′ kind is5 above one′ m k n =
       let up : ref ≡ suc (ref - 1) = omega arith in
       let up′ : ref′ ≡ suc (ref′ - 1) = omega arith in
@@ -240,15 +244,17 @@ module _ (e : Entry) (more : ℕ → ℤ) (t : Tally) (ty ref h x : ℕ) (type :
 reduced-off : (r k : ℕ) (more : ℕ → ℤ) (t : Tally) (h n : ℕ) → reducedSum ≢ k → redOf (addTo r k more t) h n ≡ redOf t h n
 reduced-off r k more t h n ne = add-off r k more t (suc n) reducedSum h (inl ne)
 
+returned-red : (e : Entry) (more : ℕ → ℤ) (t : Tally) (h n : ℕ) → redOf (returned e more t) h n ≡ redOf t h n
+unfolding returned
+returned-red e more t h n = reduced-off _ _ _ _ h n (λ z. omega (arith, z)) ∙ reduced-off _ _ more t h n (λ z. omega (arith, z))
+
 pub booked-red : (e : Entry) (more : ℕ → ℤ) (t : Tally) (h n : ℕ) → redOf (booked e more t) h n ≡ redOf t h n
 unfolding booked
 booked-red e more t h n = go (original (e .reqtype)) (eqb (e .reqtype) RELINQUISH)
   where
-    go : (b c : Bool) → redOf (pick b t (pick c (addTo (t (e .related) .related) redirectedSum (λ i. negℤ (more i)) (addTo (e .related) relinquishedSum more t)) (addTo (e .related) (sumOf (e .reqtype)) more t))) h n ≡ redOf t h n
+    go : (b c : Bool) → redOf (pick b t (pick c (returned e more t) (addTo (e .related) (sumOf (e .reqtype)) more t))) h n ≡ redOf t h n
     go true c = refl
-    go false true =
-        reduced-off (t (e .related) .related) redirectedSum (λ i. negℤ (more i)) (addTo (e .related) relinquishedSum more t) h n (λ z. omega (arith, z))
-        ∙ reduced-off (e .related) relinquishedSum more t h n (λ z. omega (arith, z))
+    go false true = returned-red e more t h n
     go false false = reduced-off (e .related) (sumOf (e .reqtype)) more t h n (λ z. omega (arith, z, sum-part (e .reqtype), part-least (e .reqtype)))
 
 -- reducing row c

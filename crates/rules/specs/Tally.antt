@@ -91,11 +91,15 @@ changed a w answer e =
 unfoldable pub sumOf : ℕ → ℕ
 sumOf t = pick (eqb t RESALE) resoldSum (pick (redirect t) redirectedSum (pick (transfer t) transferredSum relinquishedSum))
 
--- granted added to the related entry, and for type 8 taken from the redirected of the redirect's related entry
+-- type 8: granted added to the redirect's relinquished, and taken from the redirected of the redirect's related entry
+unfoldable pub returned : Entry → (ℕ → ℤ) → Tally → Tally
+returned e more t = addTo (t (e .related) .related) redirectedSum (λ h. negℤ (more h)) (addTo (e .related) relinquishedSum more t)
+
+-- granted added to the related entry
 unfoldable pub booked : Entry → (ℕ → ℤ) → Tally → Tally
 booked e more t =
     pick (original (e .reqtype)) t (
-    pick (eqb (e .reqtype) RELINQUISH) (addTo (t (e .related) .related) redirectedSum (λ h. negℤ (more h)) (addTo (e .related) relinquishedSum more t))
+    pick (eqb (e .reqtype) RELINQUISH) (returned e more t)
     (addTo (e .related) (sumOf (e .reqtype)) more t))
 
 -- a change to 13 books granted, a change from 13 to 16 takes it back, reduce adds to reduced

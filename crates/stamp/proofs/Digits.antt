@@ -10,7 +10,7 @@ use lib.Dec.{eqb, ltb}
 use native.Mathlib.Numerals.{add-one}
 use lib.ListN.{getD, length, drop, drop-of-length-le}
 use lib.Seq.{drop-cons}
-use Rattle.stamp.specs.Pick.{pick}
+use Rattle.words.specs.Pick.{pick}
 use Rattle.stamp.specs.Stamp.{noDigit, twoDigits, digit0, digit9, placeFrom, zoneOf, zoneLetters, zones, zoneCount, letters, noNumber}
 use Rattle.stamp.proofs.Picks.{by-test, or-left, or-right, hit, skip}
 use Rattle.stamp.proofs.Lists.{each-at}

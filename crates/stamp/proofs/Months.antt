@@ -7,7 +7,7 @@ use native.Mathlib.Nat.{add-suc, add-zero, suc-add}
 use borrow.Author.Tests.{ltb-true, ltb-false, eqb-true}
 use lib.Dec.{eqb, ltb}
 use lib.ListN.{getD}
-use Rattle.stamp.specs.Pick.{pick}
+use Rattle.words.specs.Pick.{pick}
 use Rattle.stamp.specs.Calendar.{daysIn, daysBefore, monthFrom, monthOf, leapDay, leap, yearOf, placeInYear, commonDays, allMonths, allDays}
 use Rattle.stamp.proofs.Picks.{by-test, hit, skip}
 use Rattle.stamp.proofs.Lists.{most-at}

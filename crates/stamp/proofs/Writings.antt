@@ -8,7 +8,7 @@ use borrow.Author.Tests.{ltb-false, leb-false, eqb-true, lt-ltb, le-ltb, le-leb,
 use lib.Dec.{eqb, ltb, leb}
 use lib.ListN.{length, drop-of-length-le}
 use lib.Seq.{sets, sets-eq}
-use Rattle.stamp.specs.Pick.{_gives_else_}
+use Rattle.words.specs.Pick.{_gives_else_}
 use Rattle.stamp.specs.Steps.{putDigits, putZone}
 use Rattle.stamp.specs.Stamp.{bytesOf, writeNumber, written, stampOf, offset, stampLength, allSeconds, zoneCount, notWritten}
 use Rattle.stamp.specs.declared.Fields.{Fields}

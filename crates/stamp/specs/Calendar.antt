@@ -4,7 +4,7 @@ use mathlib.Core.Bool.{Bool, _&&_, _||_, not}
 use mathlib.Core.List.{List, [], _∷_}
 use lib.Dec.{eqb, ltb}
 use lib.ListN.{getD}
-use Rattle.stamp.specs.Pick.{pick}
+use Rattle.words.specs.Pick.{pick}
 
 abbrev pub firstYear : ℕ
 firstYear = 2000

@@ -1,4 +1,3 @@
-pub mod Pick
 pub mod Calendar
 pub mod Stamp
 pub mod Steps

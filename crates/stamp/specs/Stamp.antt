@@ -4,7 +4,7 @@ use mathlib.Core.Bool.{Bool, _&&_, _||_, not}
 use mathlib.Core.List.{List, [], _∷_, _++_}
 use lib.Dec.{eqb, leb, ltb}
 use lib.ListN.{length, getD}
-use Rattle.stamp.specs.Pick.{pick, _gives_else_}
+use Rattle.words.specs.Pick.{pick, _gives_else_}
 use Rattle.stamp.specs.Calendar.{monthsOfYear, allDays, daysIn, daysBefore, monthOf}
 use Rattle.stamp.specs.declared.Fields.{Fields}
 use Rattle.stamp.specs.declared.Reading.{Reading}

@@ -2,7 +2,7 @@
 use mathlib.Core.Bool.{Bool, true, false}
 use Prim.Native.Nat.{ℕ}
 
--- a where the test holds, else b
+-- `pick t a b` is a where the test t holds, else b
 abbrev pub pick : {A : Type 0} → Bool → A → A → A
 pick true a b = a
 pick false a b = b
