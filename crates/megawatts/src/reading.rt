@@ -6,7 +6,7 @@ ghost use Rattle.words.specs.Lists.{total};
 ghost use Rattle.rules.specs.Pick.{pick};
 ghost use Rattle.rules.specs.Numbers.{profiles, mostHours, grantedGiven, requestedPart, grantedPart};
 ghost use Rattle.rules.specs.Layout.{Sized, row, reqtype, start, has, spanHours, relatedRow, span};
-ghost use Rattle.rules.specs.Sound.{original, transfer};
+ghost use Rattle.rules.specs.Sound.{transfer};
 ghost use Rattle.rules.specs.Moves.{isConfirmed};
 ghost use Rattle.rules.specs.Megawatts.{inForce};
 ghost use Rattle.megawatts.specs.Placed.{Placed, HoursIn};
@@ -15,8 +15,6 @@ use layout::numbers::FLAGS;
 use layout::numbers::FULL_TRANSFER;
 use layout::numbers::GRANTED_GIVEN;
 use layout::numbers::GRANTED_PART;
-use layout::numbers::ORIGINAL_FIRM;
-use layout::numbers::ORIGINAL_NONFIRM;
 use layout::numbers::PART_TRANSFER;
 use layout::numbers::RELATED;
 use layout::numbers::REQUESTED_PART;
@@ -27,15 +25,9 @@ use layout::rows::has_flag;
 use layout::rows::hours_at;
 use layout::rows::row_at;
 use layout::rows::word_at;
+use rules::Reference;
 
-// Types 1 and 2; types 6 and 7.
-
-pub fn is_original(reqtype: u32) -> bool
-    ensures { λ b. ⌜ b ≡ original reqtype ⌝ }
-{
-    ORIGINAL_FIRM <= reqtype && reqtype <= ORIGINAL_NONFIRM
-}
-
+// Types 6 and 7.
 pub fn is_transfer(reqtype: u32) -> bool
     ensures { λ b. ⌜ b ≡ transfer reqtype ⌝ }
 {
@@ -56,11 +48,8 @@ pub fn related_of(l: &[u32], rows: usize, hours: usize, n: usize) -> usize
     requires { ⌜ n < rows ⌝ }
     ensures { λ r. ⌜ r ≡ relatedRow hours (now (l .entry)) n ⌝ }
 {
-    let related = word_at(l, rows, hours, n, RELATED) as usize;
-    if related == 0 {
-        return 0;
-    }
-    related - 1
+    let row = rules::row_of(Reference(word_at(l, rows, hours, n, RELATED)));
+    row.0
 }
 
 // The first hour of its span, and how many there are.

@@ -6,8 +6,8 @@ use native.Mathlib.Omega.{arith}
 use borrow.Author.Tests.{ltb-true, leb-true, eqb-true, lt-ltb, le-leb, eq-eqb}
 use lib.Dec.{eqb, ltb, leb}
 use Rattle.stamp.specs.Calendar.{allMonths, allDays, monthsOfYear}
-use Rattle.stamp.specs.Stamp.{isDate, isTime, inRange, monthIn, dayIn, century, lastYear, zoneCount}
-use Rattle.stamp.specs.Steps.{isMonth, inLimits, inMonth, OfMonth, Ranged}
+use Rattle.stamp.specs.Stamp.{isMonth, inMonth, isDate, isTime, inRange, monthIn, dayIn, century, lastYear, zoneCount}
+use Rattle.stamp.specs.Steps.{inLimits, OfMonth, Ranged}
 use Rattle.stamp.specs.declared.Fields.{Fields}
 use Rattle.stamp.proofs.Picks.{and-left, and-right, both, no-left, no-right, moved}
 use Rattle.stamp.proofs.Months.{next-month, later-month, all-days}
@@ -72,7 +72,7 @@ pub in-both : (f : Fields) → inLimits f ≡ true → inMonth f ≡ true → in
 in-both f p q = last-day f ∙ both (inLimits f) (inMonth f) p q
 
 pub in-range : {f : Fields} → Ranged f → inRange f ≡ true
-unfolding inRange isDate isTime
+unfolding inRange isDate isMonth isTime
 in-range {f} r =
     simp (eq-eqb _ _ (r .hundreds), le-leb _ _ (r .years), le-leb _ _ (r .firstMonth), le-leb _ _ (r .lastMonth), le-leb _ _ (r .firstDay), le-leb _ _ (r .lastDay), le-leb _ _ (r .hours), le-leb _ _ (r .minutes), le-leb _ _ (r .seconds), lt-ltb _ _ (r .zones))
 

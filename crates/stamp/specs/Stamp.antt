@@ -181,12 +181,19 @@ bytesOf f =
 abbrev pub monthIn : Fields → ℕ
 monthIn f = monthsOfYear * f .year + (f .month - 1)
 
--- years 2000 to 2099, days by the Gregorian calendar
-unfoldable pub isDate : Fields → Bool
-isDate f =
+-- years 2000 to 2099, and a day from the first of a month on
+unfoldable pub isMonth : Fields → Bool
+isMonth f =
     eqb (f .century) century && leb (f .year) lastYear
     && leb 1 (f .month) && leb (f .month) monthsOfYear
-    && leb 1 (f .day) && leb (f .day) (daysIn (monthIn f))
+    && leb 1 (f .day)
+
+-- the day is not past the month's last: days by the Gregorian calendar
+abbrev pub inMonth : Fields → Bool
+inMonth f = leb (f .day) (daysIn (monthIn f))
+
+unfoldable pub isDate : Fields → Bool
+isDate f = isMonth f && inMonth f
 
 unfoldable pub isTime : Fields → Bool
 isTime f = leb (f .hour) lastHour && leb (f .minute) lastMinute && leb (f .second) lastSecond

@@ -3,10 +3,10 @@ use mathlib.Core.Path.{_≡_}
 use mathlib.Core.Bool.{Bool, _&&_}
 use mathlib.Core.List.{List}
 use Prim.Native.Nat.{ℕ, _+_, _*_, _/_, _%_, _≤_, _<_}
-use lib.Dec.{eqb, leb, ltb}
+use lib.Dec.{ltb}
 use lib.ListN.{getD, set}
 use Rattle.stamp.specs.Calendar.{monthsOfYear, allMonths, allDays, daysIn, daysBefore, monthOf}
-use Rattle.stamp.specs.Stamp.{century, lastYear, lastHour, lastMinute, lastSecond, hour, digit0, noNumber, zoneCount, zoneLetters, offset, isTime, monthIn, dayIn}
+use Rattle.stamp.specs.Stamp.{century, lastYear, lastHour, lastMinute, lastSecond, hour, digit0, noNumber, zoneCount, zoneLetters, offset, isMonth, isTime, monthIn, dayIn}
 use Rattle.stamp.specs.declared.Fields.{Fields}
 
 -- a table of the days before each of the 1,200 months
@@ -33,20 +33,9 @@ pub record Offset (z r : ℕ) : Type 0 where
   pub is : r ≡ offset z
   pub small : r ≤ 8 * hour
 
--- `isDate` but for the month's last day
-unfoldable pub isMonth : Fields → Bool
-isMonth f =
-    eqb (f .century) century && leb (f .year) lastYear
-    && leb 1 (f .month) && leb (f .month) monthsOfYear
-    && leb 1 (f .day)
-
 -- `inRange` but for the month's last day
 unfoldable pub inLimits : Fields → Bool
 inLimits f = isMonth f && isTime f && ltb (f .zone) zoneCount
-
--- the day is not past the month's last
-abbrev pub inMonth : Fields → Bool
-inMonth f = leb (f .day) (daysIn (monthIn f))
 
 -- `isMonth` as facts
 pub record OfMonth (f : Fields) : Type 0 where

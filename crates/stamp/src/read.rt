@@ -2,8 +2,8 @@
 ghost use mathlib.Core.Path.{_≡_};
 ghost use Prim.Native.Nat.{_+_, _<_};
 ghost use lib.ListN.{length};
-ghost use Rattle.stamp.specs.Stamp.{letters as lettersOf, noDigit, twoDigits, numberAt, stampZone, fieldsOf, isTime, secondOf, stampLength};
-ghost use Rattle.stamp.specs.Steps.{MonthTable, isMonth, inLimits, inMonth, OfMonth, Ranged, DayIn};
+ghost use Rattle.stamp.specs.Stamp.{letters as lettersOf, noDigit, twoDigits, numberAt, stampZone, fieldsOf, isTime, secondOf, stampLength, isMonth, inMonth};
+ghost use Rattle.stamp.specs.Steps.{MonthTable, inLimits, OfMonth, Ranged, DayIn};
 use crate::CENTURY;
 use crate::DAY;
 use crate::Fields;

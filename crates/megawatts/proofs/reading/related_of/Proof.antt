@@ -1,7 +1,7 @@
 -- `megawatts::reading::related_of` meets its contract.
-use native.Mathlib.Omega.{arith}
+use mathlib.Core.Path.{ap, _∙_}
 use borrow.Author.Needs.{needs}
-use Rattle.rules.specs.Layout.{relatedRow}
+use Rattle.rules.specs.Layout.{relatedRow, rowOf}
 use Rattle.megawatts.proofs.reading.related_of.Statement.{statement}
 use Rattle.megawatts.proofs.reading.related_of.Tie as tie
 
@@ -11,7 +11,5 @@ related-of-spec =
     tie.close
     (tie.spec
     (λ c κs. search needs)
-    (λ c. search needs)
-    (λ c. omega (arith, c .before .word-at .ensures))
-    (λ c. search needs)
-    (λ c. omega (arith, c .before .word-at .ensures)))
+    (λ c κs. search needs)
+    (λ c. c .row-of .ensures ∙ ap rowOf (c .before .word-at .ensures)))

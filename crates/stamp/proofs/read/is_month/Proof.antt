@@ -1,5 +1,5 @@
 -- `stamp::read::is_month` meets its contract. Assumes nothing.
-use Rattle.stamp.specs.Steps.{isMonth}
+use Rattle.stamp.specs.Stamp.{isMonth}
 use Rattle.stamp.proofs.Picks.{chain}
 use Rattle.stamp.proofs.read.is_month.Statement.{statement}
 use Rattle.stamp.proofs.read.is_month.Tie as tie
