@@ -1,6 +1,6 @@
 /*
- * Document 01's day at the desk through the library: prints its 14 lines, and
- * exits with status 1 where a line or a word left behind differs.
+ * Document 01's day at the desk on two posted paths, through the library: prints
+ * its 14 lines, and exits with status 1 where a line or a word left behind differs.
  *
  *   cc -std=c11 -o example example.c -L<archive> -lluddrisa
  */
@@ -13,29 +13,37 @@ enum {
     ROWS = 8,
     HOURS = 4,
     LEDGER_WORDS = 8 + ROWS * (16 + 4 * HOURS),
+    POSTING_WORDS = 64 * HOURS,
+    POSTS = 2,
     ACTIONS = 14
 };
 
 /* Profiles one after the other. */
 static const uint32_t profiles[] = {100, 100, 100, 100, 40, 60, 40, 50, 1, 20};
 
+/* Beforehand: paths 1 and 2 posted at 100 MW in all hours. */
+static const struct luddrisa_action posts[POSTS] = {
+    {.kind = 8, .actor = 1, .start = 0, .stop = 4, .offset = 0, .length = 4, .path = 1},
+    {.kind = 8, .actor = 1, .start = 0, .stop = 4, .offset = 0, .length = 4, .path = 2},
+};
+
 static const struct luddrisa_action list[ACTIONS] = {
     {.kind = 1, .actor = 10, .reqtype = 1, .seller = 1, .start = 0, .stop = 4,
-     .price = 500, .offset = 0, .length = 4},
+     .price = 500, .offset = 0, .length = 4, .path = 1},
     {.kind = 2, .actor = 1, .reference = 1, .status = 10, .price = 500},
     {.kind = 3, .actor = 10, .reference = 1, .status = 13, .price = 500},
     {.kind = 1, .actor = 20, .reqtype = 3, .seller = 10, .related = 1, .start = 1, .stop = 3,
-     .flags = 1, .price = 700, .offset = 4, .length = 2},
+     .flags = 1, .price = 700, .offset = 4, .length = 2, .path = 1},
     {.kind = 2, .actor = 10, .reference = 2, .status = 10, .price = 700},
     {.kind = 1, .actor = 10, .reqtype = 5, .seller = 1, .related = 1, .start = 2, .stop = 4,
-     .flags = 1, .offset = 6, .length = 2},
+     .flags = 1, .offset = 6, .length = 2, .path = 2},
     {.kind = 2, .actor = 1, .reference = 3, .status = 10},
     {.kind = 1, .actor = 30, .reqtype = 3, .seller = 10, .related = 1, .start = 2, .stop = 3,
-     .flags = 1, .offset = 8, .length = 1},
+     .flags = 1, .offset = 8, .length = 1, .path = 1},
     {.kind = 2, .actor = 10, .reference = 4, .status = 10},
     {.kind = 2, .actor = 1, .reference = 1, .status = 15},
     {.kind = 1, .actor = 10, .reqtype = 8, .seller = 1, .related = 3, .start = 3, .stop = 4,
-     .flags = 1, .offset = 9, .length = 1},
+     .flags = 1, .offset = 9, .length = 1, .path = 2},
     {.kind = 2, .actor = 1, .reference = 5, .status = 10},
     {.kind = 2, .actor = 10, .reference = 2, .status = 16},
     {.kind = 2, .actor = 1, .reference = 3, .status = 16},
@@ -54,11 +62,21 @@ static const uint32_t *profile(const uint32_t *ledger, uint32_t reference, uint3
     return ledger + 8 + (reference - 1) * (16 + 4 * HOURS) + 16 + which * HOURS;
 }
 
+/* Hands a list over, its profiles in the slice above. */
+static uint32_t batch(uint32_t *ledger, uint32_t *postings, const struct luddrisa_action *actions,
+                      size_t count, struct luddrisa_answer *answers)
+{
+    return luddrisa_batch(ledger, LEDGER_WORDS, postings, POSTING_WORDS, profiles,
+                          sizeof profiles / sizeof profiles[0], actions, count, answers, count);
+}
+
 int main(void)
 {
     static const uint32_t displaced[HOURS] = {100, 100, 60, 70};
     static const uint32_t available[HOURS] = {0, 0, 40, 30};
+    static const struct luddrisa_answer posted[POSTS];
     uint32_t ledger[LEDGER_WORDS];
+    uint32_t postings[POSTING_WORDS] = {0};
     struct luddrisa_answer answers[ACTIONS];
     uint64_t cents;
     int differences = 0;
@@ -66,8 +84,11 @@ int main(void)
     if (luddrisa_create(ledger, LEDGER_WORDS, ROWS, HOURS, 1, 3600, 0) != 0) {
         return 1;
     }
-    if (luddrisa_batch(ledger, LEDGER_WORDS, profiles, sizeof profiles / sizeof profiles[0], list,
-                       ACTIONS, answers, ACTIONS) != 0) {
+    if (batch(ledger, postings, posts, POSTS, answers) != 0) {
+        return 1;
+    }
+    differences += memcmp(answers, posted, sizeof posted) != 0;
+    if (batch(ledger, postings, list, ACTIONS, answers) != 0) {
         return 1;
     }
     for (int i = 0; i < ACTIONS; i++) {
@@ -78,6 +99,9 @@ int main(void)
     }
     differences += memcmp(profile(ledger, 1, 3), displaced, sizeof displaced) != 0;
     differences += memcmp(profile(ledger, 3, 2), available, sizeof available) != 0;
+    for (int i = 0; i < POSTING_WORDS; i++) {
+        differences += postings[i] != (i < 2 * HOURS ? 100u : 0u);
+    }
     /* Row 3 is CONFIRMED at bid 0, row 1 no longer. */
     differences += luddrisa_charge(ledger, LEDGER_WORDS, 3, &cents) != 0 || cents != 0;
     differences += luddrisa_charge(ledger, LEDGER_WORDS, 1, &cents) != 11 || cents != 0;

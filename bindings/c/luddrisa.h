@@ -1,7 +1,7 @@
 /*
  * luddrisa.h: an hourly ledger of point-to-point transmission reservations.
  *
- * Document 01 states the rules; this page says how they are called.
+ * Documents 01 and 02 state the rules; this page says how they are called.
  *
  * THE LEDGER is a slice of 32-bit words that the caller owns, keeps and may
  * store: 8 + rows * (16 + 4 * hours) words, neither more nor fewer.
@@ -9,13 +9,26 @@
  *   head      rows, hours, provider, confirmation window in seconds, base hour,
  *             now, rows used, 0
  *   row       type, status, customer, seller, related reference, start, stop,
- *             flags, bid, offer, limit, five zeros, then four profiles of
+ *             flags, bid, offer, limit, path, four zeros, then four profiles of
  *             `hours` words: requested, granted, available, displaced
  *
  * A reference (ASSIGNMENT_REF) counts from 1: reference n is the n-th row.
  * Entities are 1 to 65,535. Hours run from start up to, not including, stop.
  * Seconds count from 2000-01-01 00:00 UT. Prices are cents per MW-day, at most
- * 99,999,999. A profile word is whole MW, at most 100,000.
+ * 99,999,999. A profile word is whole MW, at most 100,000. Paths are 1 to 64.
+ *
+ * THE POSTINGS are a second slice that the caller owns and keeps beside the
+ * ledger: what the provider says that each path can carry, in whole MW, at most
+ * 100,000. They are 64 * hours words, path by path; that of path p in hour h is
+ * postings[(p - 1) * hours + h]. When the ledger is created the caller sets them
+ * to 0. While they are 0 nothing can be confirmed: the provider posts by action
+ * 8, and no other action changes them.
+ *
+ * Use of a path in an hour is the available of its CONFIRMED rows, and of the
+ * CONFIRMED non-firm redirects that left it for another path, while their related
+ * row is CONFIRMED and they may return to it. A confirmation, an annulment or a
+ * posting that would let use exceed the posting is refused. A firm redirect gives
+ * its old path up, so annulling it can fail once that path is sold again.
  *
  * TYPES     1 ORIGINAL firm, 2 ORIGINAL non-firm, 3 RESALE, 4 REDIRECT firm,
  *           5 REDIRECT non-firm, 6 PART_TRANSFER, 7 FULL_TRANSFER, 8 RELINQUISH
@@ -28,23 +41,28 @@
  *
  * ACTIONS, the fields they read beside kind and actor:
  *
- *   1 submit           reqtype, seller, related, start, stop, flags, price, profile
+ *   1 submit           reqtype, seller, related, start, stop, flags, price,
+ *                      profile, path
  *   2 seller status    reference, status; for 6, 7, 10, 11 price and profile
  *   3 customer status  reference, status; for 8, 13 price and profile
  *   4 approve          reference
  *   5 reduce           reference, profile
  *   6 lapse            reference
  *   7 clock            time
+ *   8 post             path, start, stop, profile
  *
  * A profile is `length` words from `offset` on in the word slice handed over
  * with the actions, one for each hour of the span. Kinds 2 and 3 take length 0
- * as no profile. Fields that a kind does not read are ignored.
+ * as no profile; that of kind 8 may be all 0 and replaces the path's postings
+ * from start to stop. Fields that a kind does not read are ignored.
  *
  * ANSWERS   Accepted: 0, the reference, the status before (0 for a submission)
- * and after, and the MW-hours moved; the clock gives five zeros. Refused: the
- * number and four zeros, and no word of the ledger changes.
+ * and after, and the MW-hours moved; the clock and a posting give five zeros.
+ * Refused: the number and four zeros, and no word of the ledger or of the
+ * postings changes.
  *
- *    1 ledger unsound or not to be created so, or an hour would pass 100,000 MW
+ *    1 ledger unsound or not to be created so, postings not 64 * hours words or
+ *      one of them over 100,000, or an hour of a row would pass 100,000 MW
  *    2 unknown kind, type or status         11 the row can't move so
  *    3 no entity, or not the right party    12 price too high, or price or
  *    4 no such reference                       capacity do not agree
@@ -54,12 +72,16 @@
  *    8 all rows used                        16 limit not reached
  *    9 related row does not fit             17 fewer answers than actions
  *   10 flags                                18 not a stamp   19 stamp not written
+ *   21 path not 1 to 64, or a resale, transfer or relinquishment not on its
+ *      related row's path
+ *   22 use of the row's path, of its related row's or of the posted path would
+ *      exceed the posting in an hour
  *
  * POINTERS   No pointer may be NULL, also where its length is 0. Each must be
  * aligned for its type and good for its length during the call. What a call
  * writes must overlap nothing else that it is handed. The library keeps no
  * pointer and no state: calls on different ledgers may run at the same time,
- * calls on one ledger may not, save those that only read it.
+ * calls on one ledger or its postings may not, save those that only read it.
  *
  * No call fails in any other way than stated here, whatever the words are.
  */
@@ -88,6 +110,7 @@ struct luddrisa_action {
     uint32_t time;
     uint32_t offset; /* of the profile in the word slice */
     uint32_t length; /* of the profile, 0 where none comes */
+    uint32_t path;
 };
 
 struct luddrisa_answer {
@@ -111,9 +134,11 @@ uint32_t luddrisa_create(uint32_t *ledger, size_t len, uint32_t rows, uint32_t h
  * Answers each action in turn, action i into answers[i]. Gives 0, also for an
  * empty list, or 17 where there are fewer answers than actions, with nothing
  * done. Spare answers are not written. The list is not all-or-nothing: each
- * action has its own answer and those accepted stay.
+ * action has its own answer and those accepted stay; the next one finds ledger
+ * and postings as they left them.
  */
-uint32_t luddrisa_batch(uint32_t *ledger, size_t len, const uint32_t *words, size_t words_len,
+uint32_t luddrisa_batch(uint32_t *ledger, size_t ledger_len, uint32_t *postings,
+                        size_t postings_len, const uint32_t *words, size_t words_len,
                         const struct luddrisa_action *actions, size_t actions_len,
                         struct luddrisa_answer *answers, size_t answers_len);
 

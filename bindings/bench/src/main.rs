@@ -7,10 +7,11 @@
 
 mod mixed;
 
+use std::cell::RefCell;
 use std::hint::black_box;
 use std::time::Instant;
 
-use luddrisa::{calls, Action, Answer, Flags, ProfileAt, RequestType, Status};
+use luddrisa::{calls, Action, Answer, Flags, ProfileAt, Profiles, RequestType, Status};
 use luddrisa_model as model;
 use luddrisa_tests::converted::action_to_model;
 
@@ -71,7 +72,7 @@ fn side_by_side<S>(
 ) -> Rounds {
     left(data);
     right(data);
-    let data = std::cell::RefCell::new(data);
+    let data = RefCell::new(data);
     let mut rounds = Rounds::default();
     for _ in 0..count {
         rounds.add(
@@ -82,26 +83,80 @@ fn side_by_side<S>(
     rounds
 }
 
-/// A ledger whose rows are all confirmed originals over all hours.
-fn full_ledger(rows: u32, hours: u32) -> Vec<u32> {
-    let mut ledger = vec![0; model::ledger_words(rows, hours)];
-    assert_eq!(calls::create(&mut ledger, rows, hours, PROVIDER, 3_600, 0), 0);
-    let profile = vec![100_000; hours as usize];
-    let at = ProfileAt { offset: 0, length: hours };
-    let mut actions = Vec::new();
-    for reference in 1..=rows {
-        actions.push(
-            Action::submit(HOLDER, RequestType::ORIGINAL_FIRM, PROVIDER)
-                .span(0, hours)
-                .flags(Flags::PRECONFIRMED)
-                .profile(at),
-        );
-        actions.push(Action::seller_status(PROVIDER, reference, Status::ACCEPTED));
+/// A ledger and its postings.
+#[derive(Clone)]
+struct Desk {
+    ledger: Vec<u32>,
+    postings: Vec<u32>,
+}
+
+impl Desk {
+    /// With no rows used and nothing posted.
+    fn fresh(rows: u32, hours: u32) -> Desk {
+        let mut ledger = vec![0; model::ledger_words(rows, hours)];
+        assert_eq!(calls::create(&mut ledger, rows, hours, PROVIDER, 3_600, 0), 0);
+        Desk { ledger, postings: vec![0; model::posting_words(hours)] }
     }
-    let mut answers = vec![Answer::default(); actions.len()];
-    assert_eq!(calls::batch(&mut ledger, &profile, &actions, &mut answers), 0);
-    assert!(answers.iter().all(Answer::is_accepted));
-    ledger
+
+    fn copy_from(&mut self, other: &Desk) {
+        self.ledger.copy_from_slice(&other.ledger);
+        self.postings.copy_from_slice(&other.postings);
+    }
+
+    /// One action by the library, asserted to give a number.
+    fn one(&mut self, words: &[u32], action: &Action, number: u32) {
+        let mut answer = [Answer::default()];
+        let one = std::slice::from_ref(action);
+        calls::batch(&mut self.ledger, &mut self.postings, words, one, &mut answer);
+        assert_eq!(answer[0].number, number);
+    }
+
+    /// A batch by the library, asserted to be accepted throughout.
+    fn all(&mut self, words: &[u32], actions: &[Action], answers: &mut [Answer]) {
+        let Desk { ledger, postings } = self;
+        assert_eq!(calls::batch(ledger, postings, words, actions, answers), 0);
+        assert!(answers.iter().all(Answer::is_accepted));
+    }
+
+    /// The same with answers that nobody reads.
+    fn set_up(&mut self, words: &[u32], actions: &[Action]) {
+        self.all(words, actions, &mut vec![Answer::default(); actions.len()]);
+    }
+}
+
+/// A row of the holder over all hours that is confirmed when it is accepted.
+fn preconfirmed(reqtype: RequestType, path: u32, profile: ProfileAt) -> Action {
+    Action::submit(HOLDER, reqtype, PROVIDER)
+        .path(path)
+        .span(0, profile.length)
+        .flags(Flags::PRECONFIRMED)
+        .profile(profile)
+}
+
+fn accepted(reference: u32) -> Action {
+    Action::seller_status(PROVIDER, reference, Status::ACCEPTED)
+}
+
+/// The same megawatts in all hours, one such profile after the other.
+fn level_profiles<const N: usize>(levels: [u32; N], hours: u32) -> (Vec<u32>, [ProfileAt; N]) {
+    let mut profiles = Profiles::new();
+    let at = levels.map(|mw| profiles.add(&vec![mw; hours as usize]));
+    (profiles.words().to_vec(), at)
+}
+
+/// A ledger whose rows are all confirmed originals over all hours, 16 to a path.
+fn full_ledger(rows: u32, hours: u32) -> Desk {
+    let (words, [carries, original]) = level_profiles([100_000, 6_000], hours);
+    let mut actions: Vec<_> =
+        (1..=64).map(|path| Action::post(PROVIDER, path).span(0, hours).profile(carries)).collect();
+    for reference in 1..=rows {
+        let path = (reference - 1) % 64 + 1;
+        actions.push(preconfirmed(RequestType::ORIGINAL_FIRM, path, original));
+        actions.push(accepted(reference));
+    }
+    let mut desk = Desk::fresh(rows, hours);
+    desk.set_up(&words, &actions);
+    desk
 }
 
 /// Reductions by 1 MW in one hour, row after row.
@@ -113,17 +168,9 @@ fn reductions(count: u32, rows: u32, hours: u32) -> (Vec<u32>, Vec<Action>) {
     (profile, list)
 }
 
-/// One action by the library, asserted to give a number.
-fn one(ledger: &mut [u32], words: &[u32], action: &Action, number: u32) {
-    let mut answer = [Answer::default()];
-    calls::batch(ledger, words, std::slice::from_ref(action), &mut answer);
-    assert_eq!(answer[0].number, number);
-}
-
-/// A batch by the library, asserted to be accepted throughout.
-fn all(ledger: &mut [u32], words: &[u32], actions: &[Action], answers: &mut [Answer]) {
-    assert_eq!(calls::batch(ledger, words, actions, answers), 0);
-    assert!(answers.iter().all(Answer::is_accepted));
+/// An action of no kind: answered by 2 once soundness is looked at.
+fn unknown() -> Action {
+    Action { kind: 9, actor: PROVIDER, ..Action::default() }
 }
 
 fn time(seconds: f64) -> String {
@@ -146,19 +193,21 @@ fn line(name: &str, rounds: &Rounds, per: f64, against: &str, goal: f64) {
     );
 }
 
-/// (a) Soundness against a loop that takes the maximum of the same words.
+/// (a) Soundness of ledger and postings against a loop that takes the maximum of
+/// the same words.
 fn soundness() {
-    let unknown = Action { kind: 9, actor: PROVIDER, ..Action::default() };
     let rounds = side_by_side(
         61,
         &mut full_ledger(1_024, 744),
-        |ledger| one(ledger, &[], &unknown, 2),
-        |ledger| {
-            let mut most = 0;
-            for &word in black_box(&ledger[..]) {
-                most = most.max(word);
+        |desk| desk.one(&[], &unknown(), 2),
+        |desk| {
+            for (words, expected) in [(&desk.ledger, 6_000), (&desk.postings, 100_000)] {
+                let mut most = 0;
+                for &word in black_box(&words[..]) {
+                    most = most.max(word);
+                }
+                assert_eq!(black_box(most), expected);
             }
-            assert_eq!(black_box(most), 100_000);
         },
     );
     line("(a) soundness, R 1,024, H 744", &rounds, 1.0, "maximum of the same words", 1.5);
@@ -171,8 +220,10 @@ fn reduction() {
     let rounds = side_by_side(
         61,
         &mut full_ledger(1_024, 744),
-        |ledger| one(ledger, &profile, &list[0], 0),
-        |ledger| assert_eq!(model::act(ledger, &profile, &action).number, 0),
+        |desk| desk.one(&profile, &list[0], 0),
+        |Desk { ledger, postings }| {
+            assert_eq!(model::act(ledger, postings, &profile, &action).number, 0);
+        },
     );
     line("(b) one reduction, R 1,024, H 744", &rounds, 1.0, "the model", 1.2);
 }
@@ -183,8 +234,8 @@ fn batch_of_reductions() {
     let rounds = side_by_side(
         41,
         &mut (full_ledger(1_024, 744), vec![Answer::default(); list.len()]),
-        |(ledger, answers)| all(ledger, &profile, &list, answers),
-        |(ledger, _)| one(ledger, &profile, &list[0], 0),
+        |(desk, answers)| desk.all(&profile, &list, answers),
+        |(desk, _)| desk.one(&profile, &list[0], 0),
     );
     let name = "(c) per action of a batch of 1,000 reductions";
     line(name, &rounds, 1_000.0, "one reduction by itself", 0.01);
@@ -196,9 +247,8 @@ fn mixed_actions() {
     let mixed = mixed::mixed();
     let for_model: Vec<_> = mixed.actions.iter().map(action_to_model).collect();
     let days = 1_000_000 / mixed.actions.len();
-    let mut fresh = vec![0; model::ledger_words(mixed::ROWS, mixed::HOURS)];
-    assert_eq!(calls::create(&mut fresh, mixed::ROWS, mixed::HOURS, PROVIDER, 3_600, 0), 0);
-    let mut ledger = fresh.clone();
+    let fresh = Desk::fresh(mixed::ROWS, mixed::HOURS);
+    let mut desk = fresh.clone();
     let mut copy = fresh.clone();
     let mut answers = vec![Answer::default(); 100];
     let mut model_answers = vec![model::Answer::default(); 100];
@@ -206,27 +256,77 @@ fn mixed_actions() {
     // The fresh ledger each morning is not timed.
     let mut rounds = Rounds::default();
     for _ in 0..days {
-        ledger.copy_from_slice(&fresh);
-        copy.copy_from_slice(&fresh);
+        desk.copy_from(&fresh);
+        copy.copy_from(&fresh);
+        let words = &mixed.profiles;
         rounds.add(
             || {
+                let Desk { ledger, postings } = &mut desk;
                 seconds(|| {
                     for batch in mixed.actions.chunks(100) {
-                        calls::batch(&mut ledger, &mixed.profiles, batch, &mut answers);
+                        calls::batch(ledger, postings, words, batch, &mut answers);
                     }
                 })
             },
             || {
+                let Desk { ledger, postings } = &mut copy;
                 seconds(|| {
                     for batch in for_model.chunks(100) {
-                        model::batch(&mut copy, &mixed.profiles, batch, &mut model_answers);
+                        model::batch(ledger, postings, words, batch, &mut model_answers);
                     }
                 })
             },
         );
-        assert!(ledger == copy, "the two days agree");
+        assert!(desk.ledger == copy.ledger && desk.postings == copy.postings, "the days agree");
     }
     line("(d) 400 of 1,000,000 mixed actions, R 64, H 24, by 100", &rounds, 1.0, "the model", 1.2);
+}
+
+/// A full ledger of 1,024 rows over all 744 hours on two paths: so many originals
+/// on path 1, and non-firm redirects of them onto path 2, which are in the use of
+/// both paths. All are confirmed but the last 100, whose acceptances are the list.
+fn on_two_paths(originals: u32) -> (Desk, Vec<Action>) {
+    let levels = [100_000, 100_000 / originals, 50_000 / originals / 1_024];
+    let (words, [carries, original, redirect]) = level_profiles(levels.map(|mw| mw.max(1)), 744);
+    let mut actions: Vec<_> =
+        [1, 2].map(|path| Action::post(PROVIDER, path).span(0, 744).profile(carries)).to_vec();
+    for reference in 1..=1_024 {
+        actions.push(if reference <= originals {
+            preconfirmed(RequestType::ORIGINAL_FIRM, 1, original)
+        } else {
+            let related = (reference - 1) % originals + 1;
+            preconfirmed(RequestType::REDIRECT_NON_FIRM, 2, redirect).related(related)
+        });
+        if reference <= 924 {
+            actions.push(accepted(reference));
+        }
+    }
+    let mut desk = Desk::fresh(1_024, 744);
+    desk.set_up(&words, &actions);
+    (desk, (925..=1_024).map(accepted).collect())
+}
+
+/// (g) Confirmations in a list of 100, per action, against one soundness test of
+/// the same ledger: each walks the rows of two paths. The list's own soundness test
+/// is in it, a hundredth for each. In the second ledger a single original leaves
+/// all other rows in the use of both paths, the most that there is to walk.
+fn confirmations() {
+    for (originals, which) in [(512, "half of the rows"), (1, "all rows but one")] {
+        let (start, list) = on_two_paths(originals);
+        let desk = RefCell::new(start.clone());
+        let mut answers = vec![Answer::default(); list.len()];
+        let mut rounds = Rounds::default();
+        for _ in 0..31 {
+            // The ledger before the list is put back outside the time.
+            desk.borrow_mut().copy_from(&start);
+            rounds.add(
+                || seconds(|| desk.borrow_mut().all(&[], &list, &mut answers)),
+                || seconds(|| desk.borrow_mut().one(&[], &unknown(), 2)),
+            );
+        }
+        let name = format!("(g) a confirmation in a list, R 1,024, H 744, {which} on both paths");
+        line(&name, &rounds, 100.0, "one soundness test", 0.5);
+    }
 }
 
 /// (e) Time per action as H doubles and as rows double.
@@ -242,8 +342,8 @@ fn growth() {
             let rounds = side_by_side(
                 41,
                 &mut (full_ledger(rows, hours), vec![Answer::default(); list.len()]),
-                |(ledger, _)| one(ledger, &profile, &list[0], 0),
-                |(ledger, answers)| all(ledger, &profile, &list, answers),
+                |(desk, _)| desk.one(&profile, &list[0], 0),
+                |(desk, answers)| desk.all(&profile, &list, answers),
             );
             let (alone, each) = (rounds.library(), rounds.other() / 1_000.0);
             let growth = last.map_or((String::new(), String::new()), |(a, e): (f64, f64)| {
@@ -311,6 +411,7 @@ fn main() {
     reduction();
     batch_of_reductions();
     mixed_actions();
+    confirmations();
     growth();
     stamps();
 }

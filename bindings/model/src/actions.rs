@@ -1,9 +1,10 @@
-//! Creation, the seven kinds of action, and the batch.
+//! Creation, the eight kinds of action, and the batch.
 //!
 //! Every kind first runs its checks in the paper's order and writes only when
 //! nothing can refuse it any more.
 
 use crate::layout::*;
+use crate::paths::{exceeds, path_use, postings_fit, Left};
 use crate::readout::in_force;
 use crate::sound::{creation_numbers_fit, sound, type_may_relate};
 use crate::{Action, Answer};
@@ -26,34 +27,48 @@ pub fn create(
 }
 
 /// One action by itself.
-pub fn act(ledger: &mut [u32], words: &[u32], action: &Action) -> Answer {
-    if !sound(ledger) {
+pub fn act(ledger: &mut [u32], postings: &mut [u32], words: &[u32], action: &Action) -> Answer {
+    if !both_sound(ledger, postings) {
         return Answer::refused(BAD_LEDGER);
     }
-    answer(ledger, words, action)
+    answer(ledger, postings, words, action)
 }
 
 /// A list of actions, each answered in turn: 0, or 17 and nothing done.
 ///
-/// A sound ledger stays sound under every action and an unsound one is left as
-/// it is, so soundness is looked at once.
-pub fn batch(ledger: &mut [u32], words: &[u32], actions: &[Action], answers: &mut [Answer]) -> u32 {
+/// A sound ledger and its postings stay so under every action, others are left as
+/// they are, so soundness is looked at once.
+pub fn batch(
+    ledger: &mut [u32],
+    postings: &mut [u32],
+    words: &[u32],
+    actions: &[Action],
+    answers: &mut [Answer],
+) -> u32 {
     if answers.len() < actions.len() {
         return TOO_FEW_ANSWERS;
     }
     if actions.is_empty() {
         return 0;
     }
-    let is_sound = sound(ledger);
+    let are_sound = both_sound(ledger, postings);
     for (action, place) in actions.iter().zip(answers) {
-        *place = if is_sound { answer(ledger, words, action) } else { Answer::refused(BAD_LEDGER) };
+        *place = if are_sound {
+            answer(ledger, postings, words, action)
+        } else {
+            Answer::refused(BAD_LEDGER)
+        };
     }
     0
 }
 
-/// The answer to one action on a sound ledger.
-fn answer(ledger: &mut [u32], words: &[u32], action: &Action) -> Answer {
-    if !(SUBMIT..=CLOCK).contains(&action.kind) {
+fn both_sound(ledger: &[u32], postings: &[u32]) -> bool {
+    sound(ledger) && postings_fit(postings, ledger[HOURS])
+}
+
+/// The answer to one action on a sound ledger and its postings.
+fn answer(ledger: &mut [u32], postings: &mut [u32], words: &[u32], action: &Action) -> Answer {
+    if !(SUBMIT..=POST).contains(&action.kind) {
         return Answer::refused(BAD_CODE);
     }
     if !is_entity(action.actor) {
@@ -61,12 +76,13 @@ fn answer(ledger: &mut [u32], words: &[u32], action: &Action) -> Answer {
     }
     let outcome = match action.kind {
         SUBMIT => submit(ledger, words, action),
-        SELLER_STATUS => seller_status(ledger, words, action),
-        CUSTOMER_STATUS => customer_status(ledger, words, action),
-        APPROVE => approve(ledger, action),
+        SELLER_STATUS => seller_status(ledger, postings, words, action),
+        CUSTOMER_STATUS => customer_status(ledger, postings, words, action),
+        APPROVE => approve(ledger, postings, action),
         REDUCE => reduce(ledger, words, action),
-        LAPSE => lapse(ledger, action),
-        _ => clock(ledger, action),
+        LAPSE => lapse(ledger, postings, action),
+        CLOCK => clock(ledger, action),
+        _ => post(ledger, postings, words, action),
     };
     outcome.unwrap_or_else(Answer::refused)
 }
@@ -91,22 +107,23 @@ fn find(ledger: &[u32], reference: u32) -> Result<Row, u32> {
     Ok(Row::of(ledger, reference))
 }
 
-/// The profile of an action for a span of so many hours, or 7.
-fn profile<'a>(words: &'a [u32], action: &Action, hours: u32) -> Result<&'a [u32], u32> {
+/// The profile of an action for a span of so many hours, or 7; it may be all 0.
+fn any_profile<'a>(words: &'a [u32], action: &Action, hours: u32) -> Result<&'a [u32], u32> {
     let first = action.offset as usize;
     let end = first.checked_add(action.length as usize).ok_or(BAD_PROFILE)?;
     let part = words.get(first..end).ok_or(BAD_PROFILE)?;
-    let fits = action.length == hours
-        && part.iter().all(|&mw| mw <= MAX_MW)
-        && part.iter().any(|&mw| mw != 0);
-    if fits {
-        Ok(part)
-    } else {
-        Err(BAD_PROFILE)
-    }
+    refuse_if(action.length != hours || part.iter().any(|&mw| mw > MAX_MW), BAD_PROFILE)?;
+    Ok(part)
 }
 
-/// The same where length 0 means that no profile comes.
+/// The same, but all 0 is a 7.
+fn profile<'a>(words: &'a [u32], action: &Action, hours: u32) -> Result<&'a [u32], u32> {
+    let part = any_profile(words, action, hours)?;
+    refuse_if(part.iter().all(|&mw| mw == 0), BAD_PROFILE)?;
+    Ok(part)
+}
+
+/// A profile that is not all 0, or none where length 0 says that none comes.
 fn profile_if_any<'a>(
     words: &'a [u32],
     action: &Action,
@@ -143,6 +160,13 @@ fn is_firm(ledger: &[u32], reference: u32) -> bool {
 
 // Kind 1.
 
+/// Unfit is a path other than that of the row named, whatever its status, but
+/// originals name none and redirects may leave theirs.
+fn is_unfit(ledger: &[u32], action: &Action) -> bool {
+    let stays = matches!(action.reqtype, RESALE | PART_TRANSFER | FULL_TRANSFER | RELINQUISH);
+    stays && find(ledger, action.related).is_ok_and(|named| named.get(ledger, PATH) != action.path)
+}
+
 fn submit(ledger: &mut [u32], words: &[u32], action: &Action) -> Outcome {
     let reqtype = action.reqtype;
     refuse_if(!(ORIGINAL_FIRM..=RELINQUISH).contains(&reqtype), BAD_CODE)?;
@@ -151,6 +175,7 @@ fn submit(ledger: &mut [u32], words: &[u32], action: &Action) -> Outcome {
     let requested = profile(words, action, action.stop - action.start)?;
     let unconfirmed_redirect = reqtype == REDIRECT_NON_FIRM && action.flags & PRECONFIRMED == 0;
     refuse_if(action.flags > PRECONFIRMED + COORDINATED || unconfirmed_redirect, BAD_FLAGS)?;
+    refuse_if(!is_path(action.path) || is_unfit(ledger, action), BAD_PATH)?;
     refuse_if(action.price > MAX_PRICE, BAD_TERMS)?;
     if reqtype <= ORIGINAL_NON_FIRM {
         refuse_if(action.related != 0, BAD_RELATED)?;
@@ -187,6 +212,7 @@ fn submit(ledger: &mut [u32], words: &[u32], action: &Action) -> Outcome {
     row.set(ledger, STOP, action.stop);
     row.set(ledger, FLAGS, action.flags);
     row.set(ledger, BID, action.price);
+    row.set(ledger, PATH, action.path);
     let span = row.span(ledger, REQUESTED);
     ledger[span].copy_from_slice(requested);
     accepted(reference, 0, QUEUED, 0)
@@ -194,7 +220,7 @@ fn submit(ledger: &mut [u32], words: &[u32], action: &Action) -> Outcome {
 
 // Kind 2.
 
-fn seller_status(ledger: &mut [u32], words: &[u32], action: &Action) -> Outcome {
+fn seller_status(ledger: &mut [u32], postings: &[u32], words: &[u32], action: &Action) -> Outcome {
     let row = find(ledger, action.reference)?;
     let status = action.status;
     refuse_if(!(QUEUED..=RETRACTED).contains(&status), BAD_CODE)?;
@@ -205,10 +231,10 @@ fn seller_status(ledger: &mut [u32], words: &[u32], action: &Action) -> Outcome 
     let before = row.get(ledger, STATUS);
     match status {
         COUNTEROFFER | CR_COUNTEROFFER | ACCEPTED | CR_ACCEPTED => {
-            offer(ledger, words, action, row)
+            offer(ledger, postings, words, action, row)
         }
         DISPLACED => displace(ledger, action.reference, row),
-        ANNULLED if before == CONFIRMED => annul_confirmed(ledger, action.reference, row),
+        ANNULLED if before == CONFIRMED => annul_confirmed(ledger, postings, action.reference, row),
         _ => {
             row.set(ledger, STATUS, status);
             accepted(action.reference, before, status, 0)
@@ -246,7 +272,13 @@ fn seller_may_move(ledger: &[u32], row: Row, to: u32) -> bool {
 
 /// Moves to 6, 7, 10, 11; a preconfirmed row moved to 10 goes on to 13, but
 /// types 6 and 7 only when approved.
-fn offer(ledger: &mut [u32], words: &[u32], action: &Action, row: Row) -> Outcome {
+fn offer(
+    ledger: &mut [u32],
+    postings: &[u32],
+    words: &[u32],
+    action: &Action,
+    row: Row,
+) -> Outcome {
     let status = action.status;
     let accepts = status == ACCEPTED || status == CR_ACCEPTED;
     let comes = profile_if_any(words, action, span_hours(ledger, row))?;
@@ -263,7 +295,7 @@ fn offer(ledger: &mut [u32], words: &[u32], action: &Action, row: Row) -> Outcom
     let confirms = status == ACCEPTED && flags & PRECONFIRMED != 0 && !waits;
     if confirms {
         // Here granted equals requested in every hour.
-        check_confirming(ledger, row, REQUESTED, true)?;
+        check_confirming(ledger, postings, action.reference, REQUESTED, true)?;
     }
 
     let before = row.get(ledger, STATUS);
@@ -300,10 +332,11 @@ fn displace(ledger: &mut [u32], reference: u32, row: Row) -> Outcome {
     accepted(reference, CONFIRMED, DISPLACED, moved)
 }
 
-fn annul_confirmed(ledger: &mut [u32], reference: u32, row: Row) -> Outcome {
+fn annul_confirmed(ledger: &mut [u32], postings: &[u32], reference: u32, row: Row) -> Outcome {
     let available = row.span(ledger, AVAILABLE);
     let granted = row.span(ledger, GRANTED);
     refuse_if(ledger[available.clone()] != ledger[granted.clone()], IN_USE)?;
+    refuse_if(annulled(ledger, reference).exceeds(postings), OVER_POSTING)?;
     let above = (row.get(ledger, TYPE) > ORIGINAL_NON_FIRM)
         .then(|| Row::of(ledger, row.get(ledger, RELATED)));
     if let Some(above) = above {
@@ -321,7 +354,12 @@ fn annul_confirmed(ledger: &mut [u32], reference: u32, row: Row) -> Outcome {
 
 // Kind 3.
 
-fn customer_status(ledger: &mut [u32], words: &[u32], action: &Action) -> Outcome {
+fn customer_status(
+    ledger: &mut [u32],
+    postings: &[u32],
+    words: &[u32],
+    action: &Action,
+) -> Outcome {
     let row = find(ledger, action.reference)?;
     let status = action.status;
     refuse_if(!(QUEUED..=RETRACTED).contains(&status), BAD_CODE)?;
@@ -352,7 +390,8 @@ fn customer_status(ledger: &mut [u32], words: &[u32], action: &Action) -> Outcom
         let requested = comes.unwrap_or(&ledger[row.span(ledger, REQUESTED)]);
         let unequal = action.price != row.get(ledger, OFFER) || requested != granted;
         refuse_if(unequal, BAD_TERMS)?;
-        check_confirming(ledger, row, in_force, flags & APPROVED != 0)?;
+        let approved = flags & APPROVED != 0;
+        check_confirming(ledger, postings, action.reference, in_force, approved)?;
     }
 
     row.set(ledger, BID, action.price);
@@ -370,7 +409,7 @@ fn customer_status(ledger: &mut [u32], words: &[u32], action: &Action) -> Outcom
 
 // Kind 4.
 
-fn approve(ledger: &mut [u32], action: &Action) -> Outcome {
+fn approve(ledger: &mut [u32], postings: &[u32], action: &Action) -> Outcome {
     let row = find(ledger, action.reference)?;
     refuse_if(action.actor != ledger[PROVIDER], BAD_PARTY)?;
     let before = row.get(ledger, STATUS);
@@ -379,7 +418,7 @@ fn approve(ledger: &mut [u32], action: &Action) -> Outcome {
     refuse_if(!approvable, BAD_MOVE)?;
     let confirms = flags & PRECONFIRMED != 0 && before == ACCEPTED;
     if confirms {
-        check_confirming(ledger, row, in_force(ledger, row), true)?;
+        check_confirming(ledger, postings, action.reference, in_force(ledger, row), true)?;
     }
 
     row.set(ledger, FLAGS, flags | APPROVED);
@@ -409,7 +448,7 @@ fn reduce(ledger: &mut [u32], words: &[u32], action: &Action) -> Outcome {
 
 // Kind 6.
 
-fn lapse(ledger: &mut [u32], action: &Action) -> Outcome {
+fn lapse(ledger: &mut [u32], postings: &[u32], action: &Action) -> Outcome {
     let row = find(ledger, action.reference)?;
     refuse_if(action.actor != ledger[PROVIDER], BAD_PARTY)?;
     let before = row.get(ledger, STATUS);
@@ -419,7 +458,9 @@ fn lapse(ledger: &mut [u32], action: &Action) -> Outcome {
     refuse_if(!offered || preconfirmed && before == ACCEPTED, BAD_MOVE)?;
     refuse_if(ledger[NOW] < row.get(ledger, LIMIT), BEFORE_LIMIT)?;
     if preconfirmed && before == CR_ACCEPTED {
-        check_confirming(ledger, row, in_force(ledger, row), flags & APPROVED != 0)?;
+        let in_force = in_force(ledger, row);
+        let approved = flags & APPROVED != 0;
+        check_confirming(ledger, postings, action.reference, in_force, approved)?;
         let moved = confirm(ledger, row);
         return accepted(action.reference, before, CONFIRMED, moved);
     }
@@ -436,15 +477,50 @@ fn clock(ledger: &mut [u32], action: &Action) -> Outcome {
     accepted(0, 0, 0, 0)
 }
 
+// Kind 8.
+
+fn post(ledger: &[u32], postings: &mut [u32], words: &[u32], action: &Action) -> Outcome {
+    refuse_if(action.actor != ledger[PROVIDER], BAD_PARTY)?;
+    refuse_if(!is_path(action.path), BAD_PATH)?;
+    refuse_if(action.start >= action.stop || action.stop > ledger[HOURS], BAD_SPAN)?;
+    let profile = any_profile(words, action, action.stop - action.start)?;
+    let path_postings = &mut postings[posted(action.path, ledger[HOURS] as usize)];
+    let mut anew = path_postings.to_vec();
+    anew[action.start as usize..action.stop as usize].copy_from_slice(profile);
+    refuse_if(exceeds(&path_use(ledger, action.path), &anew), OVER_POSTING)?;
+
+    path_postings.copy_from_slice(&anew);
+    accepted(0, 0, 0, 0)
+}
+
 // Confirming and giving back.
 
 /// The checks of confirming, with `granted` naming the profile that holds what
 /// will be granted. Last comes the 1 for what a type 8 row gives back.
-fn check_confirming(ledger: &[u32], row: Row, granted: usize, approved: bool) -> Result<(), u32> {
+fn check_confirming(
+    ledger: &[u32],
+    postings: &[u32],
+    reference: u32,
+    granted: usize,
+    approved: bool,
+) -> Result<(), u32> {
+    let row = Row::of(ledger, reference);
     let reqtype = row.get(ledger, TYPE);
-    if reqtype <= ORIGINAL_NON_FIRM {
-        return Ok(());
+    if reqtype > ORIGINAL_NON_FIRM {
+        check_related(ledger, row, granted, approved)?;
     }
+    refuse_if(confirmed(ledger, reference, granted).exceeds(postings), OVER_POSTING)?;
+    if reqtype == RELINQUISH {
+        let related = Row::of(ledger, row.get(ledger, RELATED));
+        let above = Row::of(ledger, related.get(ledger, RELATED));
+        refuse_if(giving_back_passes(ledger, above, row, granted), BAD_LEDGER)?;
+    }
+    Ok(())
+}
+
+/// 13, 9 and 14 of types 3 to 8.
+fn check_related(ledger: &[u32], row: Row, granted: usize, approved: bool) -> Result<(), u32> {
+    let reqtype = row.get(ledger, TYPE);
     refuse_if(is_transfer(reqtype) && !approved, NOT_APPROVED)?;
     let related = Row::of(ledger, row.get(ledger, RELATED));
     refuse_if(related.get(ledger, STATUS) != CONFIRMED, BAD_RELATED)?;
@@ -457,11 +533,42 @@ fn check_confirming(ledger: &[u32], row: Row, granted: usize, approved: bool) ->
         let same_span = start == related.get(ledger, START) && stop == related.get(ledger, STOP);
         refuse_if(!same_span || has != wants, SHORT)?;
     }
-    if reqtype == RELINQUISH {
-        let above = Row::of(ledger, related.get(ledger, RELATED));
-        refuse_if(giving_back_passes(ledger, above, row, granted), BAD_LEDGER)?;
-    }
     Ok(())
+}
+
+/// What the confirmation of a row would leave, where available suffices.
+fn confirmed(ledger: &[u32], reference: u32, granted: usize) -> Left<'_> {
+    let row = Row::of(ledger, reference);
+    let hours = row.get(ledger, START) as usize..row.get(ledger, STOP) as usize;
+    let granted = &ledger[row.span(ledger, granted)];
+    let relinquishes = row.get(ledger, TYPE) == RELINQUISH;
+    let mut left = Left::new(ledger, reference, CONFIRMED);
+    left.change(reference, hours.clone(), granted, |_, mw| if relinquishes { 0 } else { mw });
+    let related = row.get(ledger, RELATED);
+    if related != 0 {
+        left.change(related, hours.clone(), granted, |has, mw| has - mw);
+    }
+    if relinquishes {
+        let above = Row::of(ledger, related).get(ledger, RELATED);
+        if giving_back_adds_to(ledger, Row::of(ledger, above)) == AVAILABLE {
+            left.change(above, hours, granted, |has, mw| has + mw);
+        }
+    }
+    left
+}
+
+/// What the annulment of a CONFIRMED row would leave.
+fn annulled(ledger: &[u32], reference: u32) -> Left<'_> {
+    let row = Row::of(ledger, reference);
+    let hours = row.get(ledger, START) as usize..row.get(ledger, STOP) as usize;
+    let granted = &ledger[row.span(ledger, GRANTED)];
+    let mut left = Left::new(ledger, reference, ANNULLED);
+    left.change(reference, hours.clone(), granted, |_, _| 0);
+    let related = row.get(ledger, RELATED);
+    if related != 0 && giving_back_adds_to(ledger, Row::of(ledger, related)) == AVAILABLE {
+        left.change(related, hours, granted, |has, mw| has + mw);
+    }
+    left
 }
 
 /// Moves the megawatts of a checked confirmation and gives the MW-hours granted.

@@ -29,7 +29,8 @@ pub const FLAGS: usize = 7;
 pub const BID: usize = 8;
 pub const OFFER: usize = 9;
 pub const LIMIT: usize = 10;
-pub const FIRST_ZERO: usize = 11;
+pub const PATH: usize = 11;
+pub const FIRST_ZERO: usize = 12;
 
 // Profiles of a row, in their order.
 pub const REQUESTED: usize = 0;
@@ -51,6 +52,8 @@ pub const END_LIMIT: u32 = 3_158_352_000;
 pub const MAX_PRICE: u32 = 99_999_999;
 pub const MAX_MW: u32 = 100_000;
 pub const MAX_FLAGS: u32 = 31;
+/// Paths are 1 to this.
+pub const MAX_PATH: u32 = 64;
 
 // Types.
 pub const ORIGINAL_FIRM: u32 = 1;
@@ -96,6 +99,7 @@ pub const APPROVE: u32 = 4;
 pub const REDUCE: u32 = 5;
 pub const LAPSE: u32 = 6;
 pub const CLOCK: u32 = 7;
+pub const POST: u32 = 8;
 
 // Numbers of the refusals.
 pub const BAD_LEDGER: u32 = 1;
@@ -117,9 +121,15 @@ pub const BEFORE_LIMIT: u32 = 16;
 pub const TOO_FEW_ANSWERS: u32 = 17;
 pub const NOT_A_STAMP: u32 = 18;
 pub const STAMP_RANGE: u32 = 19;
+pub const BAD_PATH: u32 = 21;
+pub const OVER_POSTING: u32 = 22;
 
 pub fn is_entity(number: u32) -> bool {
     (1..=MAX_ENTITY).contains(&number)
+}
+
+pub fn is_path(number: u32) -> bool {
+    (1..=MAX_PATH).contains(&number)
 }
 
 pub fn is_open(status: u32) -> bool {
@@ -136,6 +146,17 @@ pub fn ledger_words(rows: u32, hours: u32) -> usize {
 
 pub(crate) fn row_words(hours: usize) -> usize {
     FIELD_WORDS + PROFILES * hours
+}
+
+/// The number of words of the postings for `hours` hours.
+pub fn posting_words(hours: u32) -> usize {
+    MAX_PATH as usize * hours as usize
+}
+
+/// The words of one path's postings, all hours; those of path 1 come first.
+pub fn posted(path: u32, hours: usize) -> Range<usize> {
+    let first = (path as usize - 1) * hours;
+    first..first + hours
 }
 
 /// Where one row of a ledger stands. Reference n is row n − 1.

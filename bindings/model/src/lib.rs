@@ -1,14 +1,17 @@
-//! The hourly reservation ledger of document 01, written from the paper alone.
+//! The hourly reservation ledger of document 01 with the path limits of document
+//! 02, written from the papers alone.
 //!
 //! A ledger is a slice of 32-bit words: a head of 8 words, then R rows of
-//! 16 + 4 × H words each. Everything here works in place on those words. The
-//! names follow the paper; `reqtype` is its type.
+//! 16 + 4 × H words each. What the provider posts for each path and hour stands
+//! in a second slice of 64 × H words. Everything here works in place on those
+//! words. The names follow the papers; `reqtype` is their type.
 //!
 //! The crate is the yardstick for the tests and for the benchmark: plain loops,
 //! one pass for soundness, no state beside the words.
 
 mod actions;
 mod layout;
+mod paths;
 mod readout;
 mod sound;
 mod stamp;
@@ -16,6 +19,7 @@ mod tally;
 
 pub use actions::{act, batch, create};
 pub use layout::*;
+pub use paths::{path_use, postings_fit};
 pub use readout::{charge, profile_in_force};
 pub use sound::sound;
 pub use stamp::{read_stamp, write_stamp, DAYS_BEFORE_MONTH, HOURS_BEHIND, ZONES};
@@ -41,6 +45,7 @@ pub struct Action {
     pub offset: u32,
     /// Number of profile words; 0 where no profile comes.
     pub length: u32,
+    pub path: u32,
 }
 
 /// The answer to one action.

@@ -57,6 +57,7 @@ fn row_is_sound(ledger: &[u32], reference: u32) -> bool {
         && row.get(ledger, BID) <= MAX_PRICE
         && row.get(ledger, OFFER) <= MAX_PRICE
         && row.get(ledger, LIMIT) < END_LIMIT
+        && is_path(row.get(ledger, PATH))
         && all_zero(&ledger[row.at + FIRST_ZERO..row.at + FIELD_WORDS])
         && relation_is_sound(ledger, reference, row)
         && (0..PROFILES).all(|profile| {
@@ -95,6 +96,6 @@ fn all_zero(words: &[u32]) -> bool {
     words.iter().fold(0, |bits, &word| bits | word) == 0
 }
 
-fn greatest(words: &[u32]) -> u32 {
+pub(crate) fn greatest(words: &[u32]) -> u32 {
     words.iter().fold(0, |most, &word| most.max(word))
 }

@@ -2,23 +2,30 @@
 
 use super::*;
 
-/// A ledger with a word slice that profiles are put into.
+/// A ledger and its postings with a word slice that profiles are put into.
 struct Desk {
     ledger: Vec<u32>,
+    postings: Vec<u32>,
     words: Vec<u32>,
     tally: Tally,
 }
 
 impl Desk {
-    /// Provider 1, window 3,600, base hour 0.
+    /// Provider 1, window 3,600, base hour 0, every path posted in full.
     fn new(rows: u32, hours: u32) -> Desk {
+        let postings = vec![MAX_MW; posting_words(hours)];
+        Desk { postings, ..Desk::with_nothing_posted(rows, hours) }
+    }
+
+    fn with_nothing_posted(rows: u32, hours: u32) -> Desk {
         let mut ledger = vec![9; ledger_words(rows, hours)];
         assert_eq!(create(&mut ledger, rows, hours, 1, 3_600, 0), 0);
-        Desk { ledger, words: Vec::new(), tally: Tally::new(hours) }
+        let postings = vec![0; posting_words(hours)];
+        Desk { ledger, postings, words: Vec::new(), tally: Tally::new(hours) }
     }
 
     /// One action with a profile; whatever it answers, the ledger stays sound,
-    /// and a refusal changes no word.
+    /// a refusal changes no word, and only kind 8 changes postings.
     fn act(&mut self, mut action: Action, profile: &[u32]) -> Answer {
         if !profile.is_empty() {
             action.offset = self.words.len() as u32;
@@ -26,11 +33,17 @@ impl Desk {
             self.words.extend_from_slice(profile);
         }
         let before = self.ledger.clone();
-        let answer = act(&mut self.ledger, &self.words, &action);
+        let posted_before = self.postings.clone();
+        let answer = act(&mut self.ledger, &mut self.postings, &self.words, &action);
         assert_eq!(sound(&self.ledger), sound(&before));
         if answer.number != 0 {
             assert_eq!(answer, Answer::refused(answer.number));
+        }
+        if answer.number != 0 || action.kind == POST {
             assert_eq!(self.ledger, before);
+        }
+        if answer.number != 0 || action.kind != POST {
+            assert_eq!(self.postings, posted_before);
         }
         self.tally.feed(&self.words, &action, &answer);
         answer
@@ -53,6 +66,18 @@ impl Desk {
         let reference =
             self.ok(submission(10, reqtype, 1, 0, 0, hours, 1, 500), &profile).reference;
         self.ok(seller(1, reference, ACCEPTED, 500), &[]);
+        reference
+    }
+
+    /// A confirmed row of customer 10 on a path, related to another over all its hours.
+    fn derived(&mut self, reqtype: u32, related: u32, path: u32, mw: &[u32]) -> u32 {
+        let row = Row::of(&self.ledger, related);
+        let (start, stop) = (row.get(&self.ledger, START), row.get(&self.ledger, STOP));
+        let seller_of =
+            if matches!(reqtype, RESALE | PART_TRANSFER | FULL_TRANSFER) { 10 } else { 1 };
+        let submitted = submission(10, reqtype, seller_of, related, start, stop, 1, 0);
+        let reference = self.ok(Action { path, ..submitted }, mw).reference;
+        self.ok(seller(seller_of, reference, ACCEPTED, 0), &[]);
         reference
     }
 
@@ -86,8 +111,13 @@ fn submission(
         stop,
         flags,
         price,
+        path: 1,
         ..Action::default()
     }
+}
+
+fn on_path(path: u32, action: Action) -> Action {
+    Action { path, ..action }
 }
 
 fn seller(actor: u32, reference: u32, status: u32, price: u32) -> Action {
@@ -100,6 +130,10 @@ fn customer(actor: u32, reference: u32, status: u32, price: u32) -> Action {
 
 fn on(kind: u32, actor: u32, reference: u32) -> Action {
     Action { kind, actor, reference, ..Action::default() }
+}
+
+fn posting(path: u32, start: u32, stop: u32) -> Action {
+    Action { kind: POST, actor: 1, path, start, stop, ..Action::default() }
 }
 
 fn clock(actor: u32, time: u32) -> Action {
@@ -131,17 +165,20 @@ fn day_at_the_desk() {
         (customer(10, 1, CONFIRMED, 500), &[]),
         (submission(20, RESALE, 10, 1, 1, 3, 1, 700), &[40, 60]),
         (seller(10, 2, ACCEPTED, 700), &[]),
-        (submission(10, REDIRECT_NON_FIRM, 1, 1, 2, 4, 1, 0), &[40, 50]),
+        (on_path(2, submission(10, REDIRECT_NON_FIRM, 1, 1, 2, 4, 1, 0)), &[40, 50]),
         (seller(1, 3, ACCEPTED, 0), &[]),
         (submission(30, RESALE, 10, 1, 2, 3, 1, 0), &[1]),
         (seller(10, 4, ACCEPTED, 0), &[]),
         (seller(1, 1, DISPLACED, 0), &[]),
-        (submission(10, RELINQUISH, 1, 3, 3, 4, 1, 0), &[20]),
+        (on_path(2, submission(10, RELINQUISH, 1, 3, 3, 4, 1, 0)), &[20]),
         (seller(1, 5, ACCEPTED, 0), &[]),
         (seller(10, 2, ANNULLED, 0), &[]),
         (seller(1, 3, ANNULLED, 0), &[]),
     ];
-    let mut desk = Desk::new(8, 4);
+    let mut desk = Desk::with_nothing_posted(8, 4);
+    for path in [1, 2] {
+        assert_eq!(desk.act(posting(path, 0, 4), &[100; 4]), Answer::default());
+    }
     let mut lines = Vec::new();
     for (number, (action, profile)) in (1..).zip(list) {
         let answer = desk.act(action, profile);
@@ -158,6 +195,8 @@ fn day_at_the_desk() {
     assert_eq!(desk.profile(1, DISPLACED_MW), [100, 100, 60, 70]);
     assert_eq!(desk.profile(1, AVAILABLE), [0; 4]);
     assert_eq!(desk.profile(3, AVAILABLE), [0, 0, 40, 30]);
+    assert_eq!((1..=5).map(|n| desk.field(n, PATH)).collect::<Vec<_>>(), [1, 1, 2, 1, 2]);
+    assert_eq!(desk.postings[..8], [100; 8]);
     assert_eq!(balanced(&desk.ledger, &desk.tally), Ok(()));
 }
 
@@ -166,38 +205,43 @@ fn day_at_the_desk_in_one_batch() {
     let profiles = [100, 100, 100, 100, 40, 60, 40, 50, 1, 20];
     let with = |action: Action, offset, length| Action { offset, length, ..action };
     let list = [
+        with(posting(1, 0, 4), 0, 4),
+        with(posting(2, 0, 4), 0, 4),
         with(submission(10, ORIGINAL_FIRM, 1, 0, 0, 4, 0, 500), 0, 4),
         seller(1, 1, ACCEPTED, 500),
         customer(10, 1, CONFIRMED, 500),
         with(submission(20, RESALE, 10, 1, 1, 3, 1, 700), 4, 2),
         seller(10, 2, ACCEPTED, 700),
-        with(submission(10, REDIRECT_NON_FIRM, 1, 1, 2, 4, 1, 0), 6, 2),
+        with(on_path(2, submission(10, REDIRECT_NON_FIRM, 1, 1, 2, 4, 1, 0)), 6, 2),
         seller(1, 3, ACCEPTED, 0),
         with(submission(30, RESALE, 10, 1, 2, 3, 1, 0), 8, 1),
         seller(10, 4, ACCEPTED, 0),
         seller(1, 1, DISPLACED, 0),
-        with(submission(10, RELINQUISH, 1, 3, 3, 4, 1, 0), 9, 1),
+        with(on_path(2, submission(10, RELINQUISH, 1, 3, 3, 4, 1, 0)), 9, 1),
         seller(1, 5, ACCEPTED, 0),
         seller(10, 2, ANNULLED, 0),
         seller(1, 3, ANNULLED, 0),
     ];
     let mark = Answer { number: 77, reference: 77, before: 77, after: 77, moved: 77 };
-    let mut desk = Desk::new(8, 4);
-    let fresh = desk.ledger.clone();
+    let mut desk = Desk::with_nothing_posted(8, 4);
+    let fresh = (desk.ledger.clone(), desk.postings.clone());
 
-    let mut few = [mark; 13];
-    assert_eq!(batch(&mut desk.ledger, &profiles, &list, &mut few), TOO_FEW_ANSWERS);
-    assert_eq!((&desk.ledger, few), (&fresh, [mark; 13]));
+    let mut few = [mark; 15];
+    let number = batch(&mut desk.ledger, &mut desk.postings, &profiles, &list, &mut few);
+    assert_eq!(number, TOO_FEW_ANSWERS);
+    assert_eq!((&(desk.ledger.clone(), desk.postings.clone()), few), (&fresh, [mark; 15]));
 
-    let mut answers = [mark; 16];
-    assert_eq!(batch(&mut desk.ledger, &profiles, &list, &mut answers), 0);
-    for (line, answer) in DAY.iter().zip(answers) {
+    let mut answers = [mark; 18];
+    assert_eq!(batch(&mut desk.ledger, &mut desk.postings, &profiles, &list, &mut answers), 0);
+    assert_eq!(answers[..2], [Answer::default(); 2]);
+    for (line, answer) in DAY.iter().zip(&answers[2..]) {
         let words = [answer.number, answer.reference, answer.before, answer.after, answer.moved];
         assert_eq!(line[1..], words, "line {}", line[0]);
     }
-    assert_eq!(answers[14..], [mark; 2]);
+    assert_eq!(answers[16..], [mark; 2]);
     assert_eq!(desk.profile(1, DISPLACED_MW), [100, 100, 60, 70]);
-    assert_eq!(batch(&mut desk.ledger, &[], &[], &mut []), 0);
+    assert_eq!(batch(&mut desk.ledger, &mut [], &[], &[], &mut []), 0);
+    assert_eq!(batch(&mut desk.ledger, &mut [], &[], &list[..1], &mut []), TOO_FEW_ANSWERS);
 }
 
 #[test]
@@ -227,11 +271,26 @@ fn creation_is_refused() {
 
 #[test]
 fn every_kind_on_an_unsound_ledger() {
-    for kind in [0, 1, 2, 3, 4, 5, 6, 7, 8, u32::MAX] {
+    for kind in [0, 1, 2, 3, 4, 5, 6, 7, 8, 9, u32::MAX] {
         let mut desk = Desk::new(1, 1);
         desk.ledger[HEAD_ZERO] = 1;
         assert_eq!(desk.number(on(kind, 1, 1), &[]), BAD_LEDGER);
-        assert_eq!(act(&mut [], &[], &on(kind, 1, 1)).number, BAD_LEDGER);
+        assert_eq!(act(&mut [], &mut [], &[], &on(kind, 1, 1)).number, BAD_LEDGER);
+    }
+}
+
+#[test]
+fn every_kind_with_wrong_postings() {
+    for kind in [0, 1, 2, 3, 4, 5, 6, 7, 8, 9, u32::MAX] {
+        for postings in [vec![], vec![0; 64], vec![0; 127], vec![0; 129], vec![0; 192]] {
+            let mut desk = Desk { postings, ..Desk::new(1, 2) };
+            assert_eq!(desk.number(on(kind, 0, 1), &[]), BAD_LEDGER);
+        }
+        for at in [0, 64, 127] {
+            let mut desk = Desk::new(1, 2);
+            desk.postings[at] = 100_001;
+            assert_eq!(desk.number(on(kind, 0, 1), &[]), BAD_LEDGER);
+        }
     }
 }
 
@@ -240,7 +299,7 @@ fn kind_and_actor_come_first() {
     let mut desk = Desk::new(1, 1);
     assert_eq!(desk.number(on(9, 0, 0), &[]), BAD_CODE);
     assert_eq!(desk.number(on(0, 1, 0), &[]), BAD_CODE);
-    for kind in 1..=7 {
+    for kind in 1..=8 {
         assert_eq!(desk.number(on(kind, 0, 99), &[]), BAD_PARTY);
         assert_eq!(desk.number(on(kind, 65_536, 99), &[]), BAD_PARTY);
     }
@@ -253,7 +312,8 @@ fn submission_is_refused() {
     desk.original(ORIGINAL_NON_FIRM, 100);
     let good = submission(10, REDIRECT_FIRM, 1, 1, 1, 3, 0, 0);
     let two = &[5, 6];
-    let cases: [(Action, &[u32], u32); 17] = [
+    let resale = submission(20, RESALE, 10, 1, 1, 3, 0, 0);
+    let cases: [(Action, &[u32], u32); 28] = [
         (Action { reqtype: 9, ..good }, two, BAD_CODE),
         (Action { seller: 0, ..good }, two, BAD_PARTY),
         (Action { start: 3, ..good }, two, BAD_SPAN),
@@ -264,6 +324,17 @@ fn submission_is_refused() {
         (good, &[0, 0], BAD_PROFILE),
         (Action { flags: 4, ..good }, two, BAD_FLAGS),
         (Action { reqtype: REDIRECT_NON_FIRM, ..good }, two, BAD_FLAGS),
+        (Action { flags: 4, path: 0, ..good }, two, BAD_FLAGS),
+        (Action { path: 0, ..good }, two, BAD_PATH),
+        (Action { path: 65, ..good }, two, BAD_PATH),
+        (Action { path: u32::MAX, ..good }, two, BAD_PATH),
+        (Action { path: 2, price: 100_000_000, ..resale }, two, BAD_PATH),
+        (Action { path: 2, reqtype: PART_TRANSFER, ..resale }, two, BAD_PATH),
+        (Action { path: 2, reqtype: FULL_TRANSFER, ..resale }, two, BAD_PATH),
+        (Action { path: 2, reqtype: RELINQUISH, ..resale }, two, BAD_PATH),
+        (Action { path: 2, related: 0, ..resale }, two, BAD_RELATED),
+        (Action { path: 2, related: 3, ..resale }, two, BAD_RELATED),
+        (Action { path: 2, reqtype: ORIGINAL_FIRM, ..resale }, two, BAD_RELATED),
         (Action { price: 100_000_000, ..good }, two, BAD_TERMS),
         (Action { related: 0, ..good }, two, BAD_RELATED),
         (Action { related: 2, ..good }, two, BAD_RELATED),
@@ -278,8 +349,12 @@ fn submission_is_refused() {
     // Outside its slice.
     let outside = Action { offset: u32::MAX, length: 2, ..good };
     assert_eq!(desk.number(outside, &[]), BAD_PROFILE);
-    assert_eq!(desk.ok(good, two).reference, 3);
+    assert_eq!(desk.ok(on_path(64, good), two).reference, 3);
+    assert_eq!(desk.field(3, PATH), 64);
     assert_eq!(desk.number(good, two), LEDGER_FULL);
+    // A row named is fit or not at any status.
+    assert_eq!(desk.number(Action { related: 3, ..resale }, two), BAD_PATH);
+    assert_eq!(desk.number(Action { related: 3, path: 64, ..resale }, two), BAD_RELATED);
 }
 
 #[test]
@@ -316,21 +391,30 @@ fn seller_status_is_refused() {
 fn words_over_the_bound_are_refused_last() {
     let mut desk = Desk::new(4, 1);
     let one = desk.original(ORIGINAL_FIRM, 100_000);
-    let redirect = desk.ok(submission(10, REDIRECT_NON_FIRM, 1, one, 0, 1, 1, 0), &[30]).reference;
-    desk.ok(seller(1, redirect, ACCEPTED, 0), &[]);
-    let back = desk.ok(submission(10, RELINQUISH, 1, redirect, 0, 1, 1, 0), &[20]).reference;
+    let redirect = desk.derived(REDIRECT_NON_FIRM, one, 2, &[30]);
+    let back = submission(10, RELINQUISH, 1, redirect, 0, 1, 1, 0);
+    let back = desk.ok(on_path(2, back), &[20]).reference;
     // Words that no list of actions leaves behind.
     let row = Row::of(&desk.ledger, one);
     desk.ledger[row.profile(AVAILABLE).start] = 99_981;
     desk.ledger[row.profile(DISPLACED_MW).start] = 20;
+    // Use of path 1 would pass as well, but is not asked.
     assert_eq!(desk.number(seller(1, back, ACCEPTED, 0), &[]), BAD_LEDGER);
-    assert_eq!(desk.number(seller(1, redirect, ANNULLED, 0), &[]), BAD_LEDGER);
+    assert_eq!(desk.number(seller(1, redirect, ANNULLED, 0), &[]), OVER_POSTING);
     assert_eq!(desk.number(seller(1, one, DISPLACED, 0), &[]), BAD_LEDGER);
     desk.ledger[row.profile(AVAILABLE).start] = 99_980;
     desk.ok(seller(1, back, ACCEPTED, 0), &[]);
     assert_eq!(desk.profile(one, AVAILABLE), [100_000]);
     // Annulling a row in use is 15 although the word would pass as well.
     assert_eq!(desk.number(seller(1, redirect, ANNULLED, 0), &[]), IN_USE);
+    // Given back to displaced it is no use of a path.
+    row.set(&mut desk.ledger, STATUS, DISPLACED);
+    desk.ledger[row.profile(DISPLACED_MW).start] = 99_991;
+    let granted = Row::of(&desk.ledger, redirect).profile(GRANTED).start;
+    desk.ledger[granted] = 10;
+    assert_eq!(desk.number(seller(1, redirect, ANNULLED, 0), &[]), BAD_LEDGER);
+    desk.postings[posted(1, 1)].fill(0);
+    assert_eq!(desk.number(seller(1, redirect, ANNULLED, 0), &[]), BAD_LEDGER);
 }
 
 #[test]
@@ -574,5 +658,186 @@ fn the_table_of_months() {
             assert_eq!(write_stamp(&mut bytes, second, zone), 0);
             assert_eq!(read_stamp(&bytes), Ok(second));
         }
+    }
+}
+
+#[test]
+fn posting_is_refused() {
+    let mut desk = Desk::with_nothing_posted(2, 4);
+    let good = posting(64, 1, 3);
+    let two = &[5, 6];
+    let cases: [(Action, &[u32], u32); 13] = [
+        (Action { actor: 0, ..good }, two, BAD_PARTY),
+        (Action { actor: 2, path: 0, ..good }, two, BAD_PARTY),
+        (Action { path: 0, stop: 0, ..good }, two, BAD_PATH),
+        (Action { path: 65, ..good }, two, BAD_PATH),
+        (Action { path: u32::MAX, ..good }, two, BAD_PATH),
+        (Action { start: 3, ..good }, &[], BAD_SPAN),
+        (Action { stop: 5, ..good }, two, BAD_SPAN),
+        (Action { start: u32::MAX, stop: 0, ..good }, two, BAD_SPAN),
+        (good, &[], BAD_PROFILE),
+        (good, &[5], BAD_PROFILE),
+        (good, &[5, 6, 7], BAD_PROFILE),
+        (good, &[5, 100_001], BAD_PROFILE),
+        (Action { offset: u32::MAX, length: 2, ..good }, &[], BAD_PROFILE),
+    ];
+    for (action, profile, number) in cases {
+        assert_eq!(desk.number(action, profile), number, "{action:?} {profile:?}");
+    }
+    let last = desk.postings.len() - 4;
+    // Fields that it does not read.
+    let wild = Action {
+        reference: u32::MAX,
+        reqtype: u32::MAX,
+        status: u32::MAX,
+        seller: u32::MAX,
+        related: u32::MAX,
+        flags: u32::MAX,
+        price: u32::MAX,
+        time: u32::MAX,
+        ..good
+    };
+    assert_eq!(desk.act(wild, &[100_000, 6]), Answer::default());
+    assert_eq!(desk.postings[last..], [0, 100_000, 6, 0]);
+    assert_eq!(desk.act(good, &[0, 0]), Answer::default());
+    assert_eq!(desk.postings, [0; 256]);
+    assert!(desk.tally.entries().is_empty());
+}
+
+#[test]
+fn no_path_is_sold_beyond_its_posting() {
+    let mut desk = Desk::with_nothing_posted(8, 2);
+    let one = submission(10, ORIGINAL_FIRM, 1, 0, 0, 2, 1, 0);
+    let one = desk.ok(one, &[100, 100]).reference;
+    let accept = seller(1, one, ACCEPTED, 0);
+    assert_eq!(desk.number(accept, &[]), OVER_POSTING);
+    desk.ok(posting(1, 0, 1), &[100]);
+    desk.ok(posting(1, 1, 2), &[99]);
+    assert_eq!(desk.number(accept, &[]), OVER_POSTING);
+    desk.ok(posting(1, 1, 2), &[100]);
+    desk.ok(accept, &[]);
+    assert_eq!(path_use(&desk.ledger, 1), [100, 100]);
+    // A posting is not lowered below the use, also in an hour that it does not touch.
+    assert_eq!(desk.number(posting(1, 0, 2), &[100, 99]), OVER_POSTING);
+    desk.postings[0] = 99;
+    assert_eq!(desk.number(posting(1, 1, 2), &[200]), OVER_POSTING);
+    desk.postings[0] = 100;
+    // A resale within the path.
+    desk.derived(RESALE, one, 1, &[30, 0]);
+    assert_eq!(path_use(&desk.ledger, 1), [100, 100]);
+    assert_eq!(balanced(&desk.ledger, &desk.tally), Ok(()));
+}
+
+#[test]
+fn a_firm_redirect_frees_its_old_path_and_may_not_come_back() {
+    let mut desk = Desk::with_nothing_posted(8, 1);
+    desk.ok(posting(1, 0, 1), &[100]);
+    let one = desk.original(ORIGINAL_FIRM, 100);
+    let redirect = submission(10, REDIRECT_FIRM, 1, one, 0, 1, 1, 0);
+    let redirect = desk.ok(on_path(2, redirect), &[40]).reference;
+    assert_eq!(desk.number(seller(1, redirect, ACCEPTED, 0), &[]), OVER_POSTING);
+    desk.ok(posting(2, 0, 1), &[40]);
+    desk.ok(seller(1, redirect, ACCEPTED, 0), &[]);
+    assert_eq!((path_use(&desk.ledger, 1), path_use(&desk.ledger, 2)), (vec![60], vec![40]));
+    let next = desk.original(ORIGINAL_FIRM, 40);
+    assert_eq!(desk.number(seller(1, redirect, ANNULLED, 0), &[]), OVER_POSTING);
+    desk.ok(seller(1, next, ANNULLED, 0), &[]);
+    desk.ok(seller(1, redirect, ANNULLED, 0), &[]);
+    assert_eq!((path_use(&desk.ledger, 1), path_use(&desk.ledger, 2)), (vec![100], vec![0]));
+    assert_eq!(balanced(&desk.ledger, &desk.tally), Ok(()));
+}
+
+#[test]
+fn a_non_firm_redirect_keeps_its_old_path_for_the_return() {
+    let mut desk = Desk::with_nothing_posted(8, 1);
+    desk.ok(posting(1, 0, 1), &[100]);
+    desk.ok(posting(2, 0, 1), &[40]);
+    let one = desk.original(ORIGINAL_FIRM, 100);
+    let redirect = desk.derived(REDIRECT_NON_FIRM, one, 2, &[40]);
+    assert_eq!((path_use(&desk.ledger, 1), path_use(&desk.ledger, 2)), (vec![100], vec![40]));
+    // On its related row's path it counts once.
+    desk.derived(REDIRECT_NON_FIRM, one, 1, &[10]);
+    assert_eq!(path_use(&desk.ledger, 1), [100]);
+    let more = desk.ok(submission(10, ORIGINAL_FIRM, 1, 0, 0, 1, 1, 0), &[1]).reference;
+    assert_eq!(desk.number(seller(1, more, ACCEPTED, 0), &[]), OVER_POSTING);
+    assert_eq!(desk.number(posting(1, 0, 1), &[99]), OVER_POSTING);
+    // A relinquished megawatt returns, and so does an annulled redirect.
+    desk.derived(RELINQUISH, redirect, 2, &[15]);
+    assert_eq!((path_use(&desk.ledger, 1), path_use(&desk.ledger, 2)), (vec![100], vec![25]));
+    // Nothing returns to the available of a displaced row.
+    desk.ok(seller(1, one, DISPLACED, 0), &[]);
+    assert_eq!((path_use(&desk.ledger, 1), path_use(&desk.ledger, 2)), (vec![10], vec![25]));
+    desk.ok(seller(1, more, ACCEPTED, 0), &[]);
+    assert_eq!(balanced(&desk.ledger, &desk.tally), Ok(()));
+}
+
+#[test]
+fn every_confirmation_is_held_to_the_posting() {
+    // By acceptance, by the customer, by approval and by lapse.
+    for kind in [SELLER_STATUS, CUSTOMER_STATUS, APPROVE, LAPSE] {
+        let mut desk = Desk::new(4, 2);
+        let one = desk.original(ORIGINAL_FIRM, 100);
+        let transfer = |flags| submission(20, PART_TRANSFER, 10, one, 0, 1, flags, 0);
+        let (flags, status) = match kind {
+            SELLER_STATUS | APPROVE => (PRECONFIRMED, ACCEPTED),
+            CUSTOMER_STATUS => (0, ACCEPTED),
+            _ => (PRECONFIRMED + COORDINATED, CR_ACCEPTED),
+        };
+        let part = desk.ok(transfer(flags), &[50]).reference;
+        let accept = seller(10, part, status, 0);
+        if kind == SELLER_STATUS {
+            desk.ok(on(APPROVE, 1, part), &[]);
+        } else {
+            desk.ok(accept, &[]);
+        }
+        if matches!(kind, CUSTOMER_STATUS | LAPSE) {
+            desk.ok(on(APPROVE, 1, part), &[]);
+            desk.ok(clock(1, 3_600), &[]);
+        }
+        let confirm = match kind {
+            SELLER_STATUS => accept,
+            CUSTOMER_STATUS => customer(20, part, CONFIRMED, 0),
+            _ => on(kind, 1, part),
+        };
+        // Use passed the posting before, in an hour outside the span.
+        desk.postings[1] = 99;
+        assert_eq!(desk.number(confirm, &[]), OVER_POSTING);
+        // Short comes first.
+        let available = Row::of(&desk.ledger, one).profile(AVAILABLE).start;
+        desk.ledger[available] = 49;
+        assert_eq!(desk.number(confirm, &[]), SHORT);
+        desk.ledger[available] = 100;
+        desk.postings[1] = 100;
+        assert_eq!(desk.ok(confirm, &[]).after, CONFIRMED);
+        assert_eq!(balanced(&desk.ledger, &desk.tally), Ok(()));
+    }
+}
+
+#[test]
+fn paths_of_foreign_rows() {
+    let mut desk = Desk::new(4, 1);
+    let one = desk.original(ORIGINAL_FIRM, 100);
+    let sale = desk.derived(RESALE, one, 1, &[60]);
+    // A resale on another path than its related row is sound, and both paths are asked.
+    Row::of(&desk.ledger, sale).set(&mut desk.ledger, PATH, 3);
+    assert!(sound(&desk.ledger));
+    let annul = seller(10, sale, ANNULLED, 0);
+    desk.postings[0] = 99;
+    assert_eq!(desk.number(annul, &[]), OVER_POSTING);
+    desk.postings[0] = 100;
+    // A displaced row's path is asked too, though nothing goes to its available.
+    Row::of(&desk.ledger, one).set(&mut desk.ledger, STATUS, DISPLACED);
+    let other = desk.original(ORIGINAL_FIRM, 100);
+    desk.postings[0] = 99;
+    assert_eq!(desk.number(annul, &[]), OVER_POSTING);
+    // Displacing and reducing ask nothing.
+    desk.ok(on(REDUCE, 1, other), &[1]);
+    desk.ok(seller(1, other, DISPLACED, 0), &[]);
+    desk.ok(annul, &[]);
+    for path in [0, 65, u32::MAX] {
+        let mut desk = Desk::new(4, 1);
+        let one = desk.original(ORIGINAL_FIRM, 100);
+        Row::of(&desk.ledger, one).set(&mut desk.ledger, PATH, path);
+        assert!(!sound(&desk.ledger));
     }
 }

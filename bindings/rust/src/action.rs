@@ -59,17 +59,18 @@ impl Profiles {
 ///
 /// let at = ProfileAt { offset: 4, length: 2 };
 /// let resale = Action::submit(20, RequestType::RESALE, 10)
+///     .path(5)
 ///     .related(1)
 ///     .span(1, 3)
 ///     .flags(Flags::PRECONFIRMED)
 ///     .price(700)
 ///     .profile(at);
-/// assert_eq!((resale.kind, resale.reqtype, resale.length), (1, 3, 2));
+/// assert_eq!((resale.kind, resale.reqtype, resale.length, resale.path), (1, 3, 2, 5));
 /// ```
 #[repr(C)]
 #[derive(Clone, Copy, Debug, Default, PartialEq, Eq)]
 pub struct Action {
-    /// The kind, 1 to 7: see [`Kind`].
+    /// The kind, 1 to 8: see [`Kind`].
     pub kind: u32,
     /// The entity that acts.
     pub actor: u32,
@@ -83,7 +84,7 @@ pub struct Action {
     pub seller: u32,
     /// RELATED_REF of a submission, 0 for originals.
     pub related: u32,
-    /// First hour of a submission.
+    /// First hour of a submission or a posting.
     pub start: u32,
     /// The hour after its last.
     pub stop: u32,
@@ -97,6 +98,8 @@ pub struct Action {
     pub offset: u32,
     /// Number of its words, 0 where no profile comes.
     pub length: u32,
+    /// The path of a submission or a posting, 1 to 64.
+    pub path: u32,
 }
 
 impl Action {
@@ -105,9 +108,10 @@ impl Action {
     }
 
     /// Kind 1: the actor, who becomes the customer, submits a request to a
-    /// seller. Goes on with [`related`](Action::related), [`span`](Action::span),
-    /// [`flags`](Action::flags), [`price`](Action::price) and
-    /// [`profile`](Action::profile).
+    /// seller. Goes on with [`path`](Action::path), [`related`](Action::related),
+    /// [`span`](Action::span), [`flags`](Action::flags), [`price`](Action::price)
+    /// and [`profile`](Action::profile). Resales, transfers and relinquishments
+    /// are on their related row's path; a redirect may be on any.
     pub fn submit(actor: u32, reqtype: RequestType, seller: u32) -> Action {
         Action { reqtype: reqtype.0, seller, ..Action::of(Kind::SUBMIT, actor) }
     }
@@ -144,6 +148,18 @@ impl Action {
         Action { time, ..Action::of(Kind::CLOCK, provider) }
     }
 
+    /// Kind 8: the provider posts what a path can carry. Goes on with
+    /// [`span`](Action::span) and [`profile`](Action::profile), which replaces the
+    /// path's postings in those hours and may be all 0.
+    pub fn post(provider: u32, path: u32) -> Action {
+        Action { path, ..Action::of(Kind::POST, provider) }
+    }
+
+    /// On a path.
+    pub fn path(self, path: u32) -> Action {
+        Action { path, ..self }
+    }
+
     /// With a related reference.
     pub fn related(self, related: u32) -> Action {
         Action { related, ..self }
@@ -171,7 +187,7 @@ impl Action {
 }
 
 /// The answer to an action. A refusal carries its number and four zeros, the
-/// clock five zeros.
+/// clock and a posting five zeros.
 #[repr(C)]
 #[derive(Clone, Copy, Debug, Default, PartialEq, Eq)]
 pub struct Answer {
@@ -198,12 +214,12 @@ impl Answer {
         Refusal::of(self.number)
     }
 
-    /// The status before, none for a submission, the clock or a refusal.
+    /// The status before, none for a submission, the clock, a posting or a refusal.
     pub fn status_before(&self) -> Option<Status> {
         (self.before != 0).then_some(Status(self.before))
     }
 
-    /// The status after, none for the clock or a refusal.
+    /// The status after, none for the clock, a posting or a refusal.
     pub fn status_after(&self) -> Option<Status> {
         (self.after != 0).then_some(Status(self.after))
     }
@@ -224,10 +240,11 @@ mod tests {
 
     #[test]
     fn layout_is_that_of_the_header() {
-        assert_eq!((size_of::<Action>(), align_of::<Action>()), (14 * 4, 4));
+        assert_eq!((size_of::<Action>(), align_of::<Action>()), (15 * 4, 4));
         assert_eq!((size_of::<Answer>(), align_of::<Answer>()), (5 * 4, 4));
         assert_eq!(std::mem::offset_of!(Action, reqtype), 3 * 4);
         assert_eq!(std::mem::offset_of!(Action, length), 13 * 4);
+        assert_eq!(std::mem::offset_of!(Action, path), 14 * 4);
         assert_eq!(std::mem::offset_of!(Answer, moved), 4 * 4);
     }
 
@@ -242,6 +259,10 @@ mod tests {
         assert_eq!(Action::clock(1, 2), Action { kind: 7, actor: 1, time: 2, ..Action::default() });
         let reduce = Action::reduce(1, 3, at);
         assert_eq!((reduce.kind, reduce.reference, reduce.offset, reduce.length), (5, 3, 7, 2));
+        let post = Action::post(1, 64).span(3, 5).profile(at);
+        assert_eq!((post.kind, post.path, post.start, post.stop), (8, 64, 3, 5));
+        assert_eq!((post.actor, post.offset, post.length), (1, 7, 2));
+        assert_eq!(Action::submit(1, RequestType::RESALE, 2).path(3).path, 3);
     }
 
     #[test]

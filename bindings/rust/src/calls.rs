@@ -19,7 +19,9 @@ mod extern_c {
         ) -> u32;
         pub fn luddrisa_batch(
             ledger: *mut u32,
-            len: usize,
+            ledger_len: usize,
+            postings: *mut u32,
+            postings_len: usize,
             words: *const u32,
             words_len: usize,
             actions: *const Action,
@@ -69,14 +71,23 @@ pub fn create(
 }
 
 /// Answers each action in turn: 0, or 17 and nothing done where there are fewer
-/// answer places than actions. Spare places are not written.
-pub fn batch(ledger: &mut [u32], words: &[u32], actions: &[Action], answers: &mut [Answer]) -> u32 {
+/// answer places than actions. Spare places are not written. `postings` are 64
+/// words for each hour of the ledger; of any other length every action answers 1.
+pub fn batch(
+    ledger: &mut [u32],
+    postings: &mut [u32],
+    words: &[u32],
+    actions: &[Action],
+    answers: &mut [Answer],
+) -> u32 {
     // SAFETY: the pointers and the lengths are those of slices lent for the call;
-    // the two that are written are borrowed mutably and so overlap nothing.
+    // the three that are written are borrowed mutably and so overlap nothing.
     unsafe {
         extern_c::luddrisa_batch(
             ledger.as_mut_ptr(),
             ledger.len(),
+            postings.as_mut_ptr(),
+            postings.len(),
             words.as_ptr(),
             words.len(),
             actions.as_ptr(),

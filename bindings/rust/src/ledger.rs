@@ -1,4 +1,4 @@
-//! A ledger that owns its words, and stamps.
+//! A ledger that owns its words, its postings, and stamps.
 
 use crate::calls;
 use crate::names::{Flags, Refusal, RequestType, Status, Zone};
@@ -6,6 +6,7 @@ use crate::{Action, Answer};
 
 const HEAD_WORDS: usize = 8;
 const FIELD_WORDS: usize = 16;
+const PATHS: usize = 64;
 
 /// A ledger and its words.
 ///
@@ -21,6 +22,73 @@ const FIELD_WORDS: usize = 16;
 #[derive(Clone, Debug, PartialEq, Eq)]
 pub struct Ledger {
     words: Vec<u32>,
+}
+
+/// What the provider has posted: the megawatts that each of the 64 paths can carry
+/// in each hour. They stand beside the ledger's words and are kept with them.
+///
+/// At first nothing is posted, and then nothing can be confirmed: the provider
+/// posts with [`Action::post`].
+///
+/// ```
+/// use luddrisa::{Action, Ledger, Postings, Profiles};
+///
+/// let mut ledger = Ledger::create(8, 4, 1, 3_600, 0).unwrap();
+/// let mut postings = Postings::none(&ledger);
+/// let mut profiles = Profiles::new();
+/// let post = Action::post(1, 64).span(1, 3).profile(profiles.add(&[70, 80]));
+/// assert!(ledger.act(&mut postings, profiles.words(), &post).is_accepted());
+/// assert_eq!(postings.path(64), Some(&[0, 70, 80, 0][..]));
+/// assert_eq!(postings.posted(64, 2), Some(80));
+/// assert_eq!(postings.posted(65, 2), None);
+/// ```
+#[derive(Clone, Debug, PartialEq, Eq)]
+pub struct Postings {
+    words: Vec<u32>,
+}
+
+impl Postings {
+    /// Nothing posted yet for a ledger: 0 for each path in each of its hours. There
+    /// are no words where the ledger's hours are out of range.
+    pub fn none(ledger: &Ledger) -> Postings {
+        let hours = ledger.head().map_or(0, |head| head.hours);
+        let hours = if hours <= 744 { hours as usize } else { 0 };
+        Postings { words: vec![0; PATHS * hours] }
+    }
+
+    /// Postings from words kept elsewhere. They are not looked at here: with
+    /// words over 100,000, or not 64 for each hour of the ledger, every action
+    /// answers [`Refusal::UNSOUND`].
+    pub fn from_words(words: Vec<u32>) -> Postings {
+        Postings { words }
+    }
+
+    /// The words, to be kept: all hours of path 1 first.
+    pub fn words(&self) -> &[u32] {
+        &self.words
+    }
+
+    /// The words, given away.
+    pub fn into_words(self) -> Vec<u32> {
+        self.words
+    }
+
+    /// The number of hours.
+    pub fn hours(&self) -> u32 {
+        u32::try_from(self.words.len() / PATHS).unwrap_or(u32::MAX)
+    }
+
+    /// What is posted for a path, hour by hour; none for an unknown path.
+    pub fn path(&self, path: u32) -> Option<&[u32]> {
+        let hours = self.words.len() / PATHS;
+        let before = (path as usize).checked_sub(1).filter(|&before| before < PATHS)?;
+        Some(&self.words[before * hours..(before + 1) * hours])
+    }
+
+    /// What is posted for a path in an hour; none for an unknown path or hour.
+    pub fn posted(&self, path: u32, hour: u32) -> Option<u32> {
+        self.path(path)?.get(hour as usize).copied()
+    }
 }
 
 /// The head of a ledger.
@@ -67,6 +135,8 @@ pub struct Row<'a> {
     pub offer: u32,
     /// The second from which its offer may lapse.
     pub limit: u32,
+    /// The path it is on, 1 to 64.
+    pub path: u32,
     /// CAPACITY_REQUESTED.
     pub requested: &'a [u32],
     /// CAPACITY_GRANTED.
@@ -120,10 +190,12 @@ impl Ledger {
         calls::charge(&self.words, 0).0 != Refusal::UNSOUND.0
     }
 
-    /// Answers one action, whose profile stands in `words`.
-    pub fn act(&mut self, words: &[u32], action: &Action) -> Answer {
+    /// Answers one action, whose profile stands in `words`. Confirmations and
+    /// annulments are held to the postings; only kind 8 changes those.
+    pub fn act(&mut self, postings: &mut Postings, words: &[u32], action: &Action) -> Answer {
         let mut answer = [Answer::default()];
-        calls::batch(&mut self.words, words, std::slice::from_ref(action), &mut answer);
+        let one = std::slice::from_ref(action);
+        calls::batch(&mut self.words, &mut postings.words, words, one, &mut answer);
         answer[0]
     }
 
@@ -131,17 +203,24 @@ impl Ledger {
     /// fewer answers than actions nothing is done; spare ones are not written.
     pub fn batch(
         &mut self,
+        postings: &mut Postings,
         words: &[u32],
         actions: &[Action],
         answers: &mut [Answer],
     ) -> Result<(), Refusal> {
-        Refusal::check(calls::batch(&mut self.words, words, actions, answers))
+        let postings = &mut postings.words;
+        Refusal::check(calls::batch(&mut self.words, postings, words, actions, answers))
     }
 
     /// The same into a new list of answers.
-    pub fn answers(&mut self, words: &[u32], actions: &[Action]) -> Vec<Answer> {
+    pub fn answers(
+        &mut self,
+        postings: &mut Postings,
+        words: &[u32],
+        actions: &[Action],
+    ) -> Vec<Answer> {
         let mut answers = vec![Answer::default(); actions.len()];
-        calls::batch(&mut self.words, words, actions, &mut answers);
+        calls::batch(&mut self.words, &mut postings.words, words, actions, &mut answers);
         answers
     }
 
@@ -198,6 +277,7 @@ impl Ledger {
             bid: fields[8],
             offer: fields[9],
             limit: fields[10],
+            path: fields[11],
             requested,
             granted,
             available,

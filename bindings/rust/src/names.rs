@@ -57,6 +57,7 @@ named_numbers! {
         REDUCE = 5, "reduce";
         LAPSE = 6, "lapse";
         CLOCK = 7, "clock";
+        POST = 8, "post";
     }
 }
 
@@ -108,7 +109,7 @@ impl Status {
 named_numbers! {
     /// Why something was refused.
     Refusal {
-        UNSOUND = 1, "the ledger is unsound or can't be created so, or an hour would pass 100,000 MW";
+        UNSOUND = 1, "the ledger or the postings are unsound or can't be created so, or an hour would pass 100,000 MW";
         UNKNOWN_CODE = 2, "the kind, type or status is unknown";
         WRONG_PARTY = 3, "the actor or the seller is no entity or not the right party";
         NO_SUCH_REFERENCE = 4, "there is no such reference";
@@ -127,6 +128,8 @@ named_numbers! {
         TOO_FEW_ANSWERS = 17, "there are fewer answer places than actions";
         NOT_A_STAMP = 18, "this is no stamp, or past the last second";
         STAMP_OUT_OF_RANGE = 19, "the second, the zone or the place for the stamp is out of range";
+        WRONG_PATH = 21, "the path is unknown, or not that of the related row";
+        OVER_POSTED = 22, "use of a path would exceed what is posted for it in some hour";
     }
 }
 
@@ -235,17 +238,17 @@ mod tests {
 
     #[test]
     fn numbers_are_those_of_the_paper() {
-        assert_eq!(numbers(Kind::ALL), (1..=7).collect::<Vec<_>>());
+        assert_eq!(numbers(Kind::ALL), (1..=8).collect::<Vec<_>>());
         assert_eq!(numbers(RequestType::ALL), (1..=8).collect::<Vec<_>>());
         assert_eq!(numbers(Status::ALL), (1..=17).collect::<Vec<_>>());
-        assert_eq!(numbers(Refusal::ALL), (1..=19).collect::<Vec<_>>());
+        assert_eq!(numbers(Refusal::ALL), (1..=19).chain(21..=22).collect::<Vec<_>>());
         assert_eq!(numbers(Zone::ALL), (0..=8).collect::<Vec<_>>());
     }
 
     #[test]
     fn every_number_has_its_own_text() {
         let texts: HashSet<_> = Refusal::ALL.iter().map(|refusal| refusal.to_string()).collect();
-        assert_eq!(texts.len(), 19);
+        assert_eq!(texts.len(), 21);
         let texts: HashSet<_> = Status::ALL.iter().map(|status| status.to_string()).collect();
         assert_eq!(texts.len(), 17);
         assert_eq!(Refusal(20).to_string(), "unknown Refusal 20");

@@ -1,30 +1,36 @@
-//! The ledger that owns its words.
+//! The ledger that owns its words, and its postings.
 
 use luddrisa::{
-    read_stamp, write_stamp, Action, Answer, Flags, Ledger, Profiles, Refusal, RequestType, Status,
-    Zone,
+    read_stamp, write_stamp, Action, Answer, Flags, Ledger, Postings, ProfileAt, Profiles, Refusal,
+    RequestType, Status, Zone,
 };
 
-/// Customer 10's original of 100 MW over 4 hours, preconfirmed and accepted.
-fn with_an_original() -> Ledger {
+/// Customer 10's original of 100 MW over 4 hours, preconfirmed and accepted, on
+/// path 3, which is posted at as much.
+fn with_an_original() -> (Ledger, Postings) {
     let mut ledger = Ledger::create(2, 4, 1, 3_600, 7).unwrap();
+    let mut postings = Postings::none(&ledger);
     let mut profiles = Profiles::new();
+    let all_day = profiles.add(&[100; 4]);
     let list = [
+        Action::post(1, 3).span(0, 4).profile(all_day),
         Action::submit(10, RequestType::ORIGINAL_FIRM, 1)
+            .path(3)
             .span(0, 4)
             .flags(Flags::PRECONFIRMED)
             .price(500)
-            .profile(profiles.add(&[100; 4])),
+            .profile(all_day),
         Action::seller_status(1, 1, Status::ACCEPTED).price(500),
     ];
-    let answers = ledger.answers(profiles.words(), &list);
-    assert_eq!(answers[1].to_string(), "0 1 1 13 400");
-    ledger
+    let answers = ledger.answers(&mut postings, profiles.words(), &list);
+    assert_eq!(answers[0], Answer::default());
+    assert_eq!(answers[2].to_string(), "0 1 1 13 400");
+    (ledger, postings)
 }
 
 #[test]
 fn rows_are_shown_by_name() {
-    let ledger = with_an_original();
+    let (ledger, _) = with_an_original();
     let head = ledger.head().unwrap();
     assert_eq!((head.rows, head.hours, head.provider, head.window), (2, 4, 1, 3_600));
     assert_eq!((head.base, head.now, head.used), (7, 0, 1));
@@ -32,6 +38,7 @@ fn rows_are_shown_by_name() {
     assert_eq!((row.reqtype, row.status), (RequestType::ORIGINAL_FIRM, Status::CONFIRMED));
     assert_eq!((row.customer, row.seller, row.related), (10, 1, 0));
     assert_eq!((row.start, row.stop, row.bid, row.offer, row.limit), (0, 4, 500, 500, 3_600));
+    assert_eq!(row.path, 3);
     assert_eq!(row.flags.to_string(), "preconfirmed, granted given, offer given");
     assert_eq!((row.requested, row.granted), (&[100; 4][..], &[100; 4][..]));
     assert_eq!((row.available, row.displaced), (&[100; 4][..], &[0; 4][..]));
@@ -44,19 +51,97 @@ fn rows_are_shown_by_name() {
 
 #[test]
 fn words_are_kept_and_come_back() {
-    let ledger = with_an_original();
+    let (ledger, postings) = with_an_original();
     let again = Ledger::from_words(ledger.words().to_vec());
     assert_eq!(again, ledger);
     assert!(again.is_sound());
     assert_eq!(again.into_words(), ledger.words());
+    let again = Postings::from_words(postings.words().to_vec());
+    assert_eq!(again, postings);
+    assert_eq!(again.into_words(), postings.words());
+}
+
+#[test]
+fn postings_are_shown_by_path_and_hour() {
+    let (_, postings) = with_an_original();
+    assert_eq!((postings.hours(), postings.words().len()), (4, 256));
+    assert_eq!(postings.path(3), Some(&[100; 4][..]));
+    assert_eq!((postings.path(2), postings.path(64)), (Some(&[0; 4][..]), Some(&[0; 4][..])));
+    assert_eq!((postings.path(0), postings.path(65), postings.path(u32::MAX)), (None, None, None));
+    assert_eq!((postings.posted(3, 3), postings.posted(4, 0)), (Some(100), Some(0)));
+    assert_eq!((postings.posted(3, 4), postings.posted(0, 0)), (None, None));
+    assert_eq!(postings.words()[8..12], [100; 4]);
+    // Nothing posted, for the hours of any words.
+    assert!(Postings::none(&Ledger::from_words(vec![1; 7])).words().is_empty());
+    for (hours, words) in [(0, 0), (1, 64), (744, 64 * 744), (745, 0), (u32::MAX, 0)] {
+        let ledger = Ledger::from_words(vec![1, hours, 1, 1, 1, 1, 1, 1]);
+        let none = Postings::none(&ledger);
+        assert_eq!(none.words(), vec![0; words]);
+        assert_eq!(none.posted(1, 0), (words > 0).then_some(0));
+    }
+}
+
+#[test]
+fn a_path_is_used_up_to_its_posting() {
+    let (mut ledger, mut postings) = with_an_original();
+    let words = [100, 100, 99, 100, 1];
+    let lower = Action::post(1, 3).span(0, 4).profile(ProfileAt { offset: 0, length: 4 });
+    let more = Action::submit(10, RequestType::ORIGINAL_NON_FIRM, 1)
+        .path(3)
+        .span(1, 2)
+        .flags(Flags::PRECONFIRMED)
+        .profile(ProfileAt { offset: 4, length: 1 });
+    let list = [
+        lower,
+        more.path(65),
+        more,
+        Action::seller_status(1, 2, Status::ACCEPTED),
+        Action::post(10, 3).span(0, 4).profile(ProfileAt { offset: 0, length: 4 }),
+    ];
+    let before = postings.clone();
+    let answers = ledger.answers(&mut postings, &words, &list);
+    let refusals: Vec<_> = answers.iter().map(Answer::refusal).collect();
+    assert_eq!(
+        refusals,
+        [
+            Some(Refusal::OVER_POSTED),
+            Some(Refusal::WRONG_PATH),
+            None,
+            Some(Refusal::OVER_POSTED),
+            Some(Refusal::WRONG_PARTY)
+        ]
+    );
+    assert_eq!(postings, before);
+    let raise = Action::post(1, 3).span(1, 2).profile(ProfileAt { offset: 5, length: 1 });
+    assert!(ledger.act(&mut postings, &[0, 0, 0, 0, 0, 101], &raise).is_accepted());
+    assert_eq!(postings.path(3), Some(&[100, 101, 100, 100][..]));
+    let accept = Action::seller_status(1, 2, Status::ACCEPTED);
+    assert_eq!(ledger.act(&mut postings, &[], &accept).moved, 1);
+}
+
+#[test]
+fn any_postings_are_answered() {
+    let (ledger, good) = with_an_original();
+    let mut high = good.words().to_vec();
+    high[255] = 100_001;
+    for words in [vec![], vec![0; 64], vec![0; 255], vec![0; 257], high] {
+        let mut ledger = ledger.clone();
+        let mut postings = Postings::from_words(words.clone());
+        let answer = ledger.act(&mut postings, &[], &Action::clock(1, 1));
+        assert_eq!(answer.refusal(), Some(Refusal::UNSOUND));
+        assert_eq!(ledger, with_an_original().0);
+        assert!(postings.path(64).is_some());
+        assert_eq!(postings.into_words(), words);
+    }
 }
 
 #[test]
 fn any_words_are_answered() {
     for words in [vec![], vec![5; 3], vec![u32::MAX; 8], vec![1; 400]] {
         let mut ledger = Ledger::from_words(words.clone());
+        let mut postings = Postings::none(&ledger);
         assert!(!ledger.is_sound());
-        let answer = ledger.act(&[], &Action::clock(1, 1));
+        let answer = ledger.act(&mut postings, &[], &Action::clock(1, 1));
         assert_eq!(answer.refusal(), Some(Refusal::UNSOUND));
         assert_eq!(ledger.charge(1), Err(Refusal::UNSOUND));
         assert!(ledger.profile_in_force(1).is_empty());
@@ -76,15 +161,16 @@ fn creation_out_of_range_is_refused() {
 
 #[test]
 fn too_few_places_do_nothing() {
-    let mut ledger = with_an_original();
+    let (mut ledger, mut postings) = with_an_original();
     let before = ledger.clone();
     let list = [Action::clock(1, 5), Action::clock(1, 6)];
     let mark = Answer { number: 7, reference: 7, before: 7, after: 7, moved: 7 };
     let mut one = [mark];
-    assert_eq!(ledger.batch(&[], &list, &mut one), Err(Refusal::TOO_FEW_ANSWERS));
+    let given = ledger.batch(&mut postings, &[], &list, &mut one);
+    assert_eq!(given, Err(Refusal::TOO_FEW_ANSWERS));
     assert_eq!((one, &ledger), ([mark], &before));
     let mut three = [mark; 3];
-    assert_eq!(ledger.batch(&[], &list, &mut three), Ok(()));
+    assert_eq!(ledger.batch(&mut postings, &[], &list, &mut three), Ok(()));
     assert_eq!(three, [Answer::default(), Answer::default(), mark]);
     assert_eq!(ledger.head().unwrap().now, 6);
 }

@@ -20,6 +20,7 @@ macro_rules! action {
             time: from.time,
             offset: from.offset,
             length: from.length,
+            path: from.path,
         }
     }};
 }

@@ -1,20 +1,27 @@
-//! Any kind on any sound ledger: rows built at random, in any status, with words
-//! near 100,000, and actions by the right party most of the time.
+//! Any kind on any sound ledger and postings: rows built at random, in any status,
+//! on any of several paths, with words near 100,000 and use beyond the posting now
+//! and then, and actions by the right party most of the time.
 
 use luddrisa_model::*;
 
-use crate::lists::{disturb, submission, with_profile, Words};
+use crate::lists::{disturb, posting, submission, with_profile, Words, PATHS};
 use crate::rng::Rng;
-use crate::run::{Difference, Run, Twice};
+use crate::run::{Desk, Difference, Run};
 
 const WORDS: [u32; 8] = [0, 0, 1, 40, 50_000, 99_960, 99_999, 100_000];
 
+/// A word that may be near the bound.
 fn word(rng: &mut Rng) -> u32 {
     if rng.chance(30) {
         rng.below(100)
     } else {
         rng.pick(&WORDS)
     }
+}
+
+/// A word of a light row, which leaves room on its path.
+fn light_word(rng: &mut Rng) -> u32 {
+    rng.pick(&[0, 1, 40, 1_000]) + rng.below(60)
 }
 
 fn price(rng: &mut Rng) -> u32 {
@@ -33,6 +40,7 @@ pub fn sound_ledger(rng: &mut Rng, most_rows: u32, most_hours: u32) -> Vec<u32> 
     let used =
         if rng.chance(10) { rng.below(rows + 1) } else { rng.from_to(rows.div_ceil(2), rows) };
     let relinquishes = rng.chance(30);
+    let rows_are = Rows { heavy: rng.pick(&[0, 15, 60]), paths: some_paths(rng) };
     for reference in 1..=used {
         ledger[USED] = reference;
         let wish = if relinquishes {
@@ -40,22 +48,75 @@ pub fn sound_ledger(rng: &mut Rng, most_rows: u32, most_hours: u32) -> Vec<u32> 
             match reference {
                 1 => ORIGINAL_FIRM,
                 2 => REDIRECT_NON_FIRM,
-                _ => RELINQUISH,
+                _ if rng.chance(70) => RELINQUISH,
+                _ => rng.from_to(ORIGINAL_FIRM, RELINQUISH),
             }
         } else {
             rng.from_to(ORIGINAL_FIRM, RELINQUISH)
         };
-        fill_row(rng, &mut ledger, reference, wish);
+        fill_row(rng, &mut ledger, reference, wish, &rows_are);
         if relinquishes && reference == 2 && rng.chance(70) {
-            Row::of(&ledger, reference).set(&mut ledger, STATUS, CONFIRMED);
+            Row::of(&ledger, 1).set(&mut ledger, STATUS, rng.pick(&[CONFIRMED, DISPLACED]));
+            Row::of(&ledger, 2).set(&mut ledger, STATUS, CONFIRMED);
         }
     }
     assert!(sound(&ledger), "a dense ledger is sound");
     ledger
 }
 
+/// What the rows of a ledger have in common.
+struct Rows {
+    /// So many in a hundred have words near the bound.
+    heavy: u32,
+    paths: Vec<u32>,
+}
+
+fn some_paths(rng: &mut Rng) -> Vec<u32> {
+    if rng.chance(50) {
+        PATHS.to_vec()
+    } else {
+        vec![rng.pick(&PATHS), rng.pick(&PATHS)]
+    }
+}
+
+/// Postings for a sound ledger: generous, just the use of the path, one less in an
+/// hour, or anything.
+pub fn postings_of(rng: &mut Rng, ledger: &[u32]) -> Vec<u32> {
+    let hours = ledger[HOURS] as usize;
+    let mut postings: Vec<u32> =
+        (0..posting_words(ledger[HOURS])).map(|_| rng.below(MAX_MW + 1)).collect();
+    for path in PATHS {
+        let path_postings = &mut postings[posted(path, hours)];
+        match rng.below(100) {
+            0..60 => path_postings.fill(MAX_MW),
+            60..80 => set_to_use(path_postings, ledger, path),
+            80..90 => {
+                set_to_use(path_postings, ledger, path);
+                lower(rng, path_postings);
+            }
+            90..95 => path_postings.fill(0),
+            _ => (),
+        }
+    }
+    postings
+}
+
+fn set_to_use(path_postings: &mut [u32], ledger: &[u32], path: u32) {
+    for (posted, mw) in path_postings.iter_mut().zip(path_use(ledger, path)) {
+        *posted = mw.min(MAX_MW);
+    }
+}
+
+/// One less in an hour that has something.
+fn lower(rng: &mut Rng, postings: &mut [u32]) {
+    let some: Vec<usize> = (0..postings.len()).filter(|&hour| postings[hour] > 0).collect();
+    if !some.is_empty() {
+        postings[rng.pick(&some)] -= 1;
+    }
+}
+
 /// A used row of the type wished for, or an original where no row above fits.
-fn fill_row(rng: &mut Rng, ledger: &mut [u32], reference: u32, wish: u32) {
+fn fill_row(rng: &mut Rng, ledger: &mut [u32], reference: u32, wish: u32, rows: &Rows) {
     let row = Row::of(ledger, reference);
     let hours = ledger[HOURS];
     // The type, and a row above that it may be related to.
@@ -82,8 +143,14 @@ fn fill_row(rng: &mut Rng, ledger: &mut [u32], reference: u32, wish: u32) {
         start = rng.from_to(start, stop - 1);
         stop = rng.from_to(start + 1, stop);
     }
-    let status = if rng.chance(40) {
+    // Rows that the next move may well confirm.
+    let ready = rng.chance(if reqtype == RELINQUISH { 60 } else { 25 });
+    let status = if ready {
+        rng.pick(&[QUEUED, ACCEPTED, ACCEPTED, CR_ACCEPTED])
+    } else if rng.chance(40) {
         CONFIRMED
+    } else if rng.chance(10) {
+        DISPLACED
     } else if rng.chance(70) {
         rng.pick(&[
             QUEUED,
@@ -108,9 +175,20 @@ fn fill_row(rng: &mut Rng, ledger: &mut [u32], reference: u32, wish: u32) {
         provider
     };
     let bid = price(rng);
-    let offer = if rng.chance(60) { bid } else { price(rng) };
+    let offer = if ready || rng.chance(60) { bid } else { price(rng) };
+    let flags = if ready {
+        let coordinated = if status == CR_ACCEPTED { COORDINATED } else { 0 };
+        let approved = if rng.chance(50) { APPROVED } else { 0 };
+        PRECONFIRMED | GRANTED_GIVEN | OFFER_GIVEN | coordinated | approved
+    } else {
+        rng.below(MAX_FLAGS + 1)
+    };
     let now = ledger[NOW];
     let limit = rng.pick(&[0, now, now, now + 1, now.saturating_sub(1), END_LIMIT - 1]);
+    // Where rows stand on other paths than a list would put them, they are sound too.
+    let stays = related != 0 && rng.chance(if trades { 70 } else { 40 });
+    let path =
+        if stays { Row::of(ledger, related).get(ledger, PATH) } else { rng.pick(&rows.paths) };
     let fields = [
         reqtype,
         status,
@@ -119,28 +197,30 @@ fn fill_row(rng: &mut Rng, ledger: &mut [u32], reference: u32, wish: u32) {
         related,
         start,
         stop,
-        rng.below(MAX_FLAGS + 1),
+        flags,
         bid,
         offer,
         limit,
+        path,
     ];
     ledger[row.at..row.at + fields.len()].copy_from_slice(&fields);
 
     // Profiles that agree with each other, and with the row above, now and then.
     let span = (start as usize)..(stop as usize);
-    let fits_above = related != 0 && rng.chance(60);
+    let fits_above = related != 0 && (ready || rng.chance(60));
     let takes_all = rng.chance(40);
-    let agrees = rng.chance(65);
+    let agrees = ready || rng.chance(65);
     let untouched = rng.chance(60);
     let never_displaced = rng.chance(60);
+    let word_of = if rng.chance(rows.heavy) { word } else { light_word };
     for hour in span {
-        let mut requested = word(rng);
+        let mut requested = word_of(rng);
         if fits_above {
             let has = ledger[Row::of(ledger, related).profile(AVAILABLE).start + hour];
             requested = if takes_all { has } else { requested.min(has) };
         }
-        let granted = if agrees { requested } else { word(rng).min(requested) };
-        let available = if untouched { granted } else { word(rng) };
+        let granted = if agrees { requested } else { word_of(rng).min(requested) };
+        let available = if untouched { granted } else { word_of(rng) };
         let displaced = if never_displaced { 0 } else { word(rng) };
         for (profile, mw) in [requested, granted, available, displaced].into_iter().enumerate() {
             ledger[row.profile(profile).start + hour] = mw;
@@ -150,13 +230,15 @@ fn fill_row(rng: &mut Rng, ledger: &mut [u32], reference: u32, wish: u32) {
 
 /// An action that may well be accepted on a ledger of any kind.
 pub fn any_action(rng: &mut Rng, ledger: &[u32], words: &mut Words) -> Action {
-    let kind = rng.pick(&[1, 2, 2, 2, 2, 3, 3, 3, 4, 5, 6, 6, 7]);
+    let kind = rng.pick(&[1, 2, 2, 2, 2, 3, 3, 3, 4, 5, 6, 6, 7, 8]);
     let used = ledger[USED];
     let provider = ledger[PROVIDER];
     let mut action = if kind == CLOCK {
         let now = ledger[NOW];
         let time = rng.pick(&[now, now + 1, now.wrapping_sub(1), END_SECOND - 1, END_SECOND]);
         Action { kind, actor: provider, time, ..Action::default() }
+    } else if kind == POST {
+        posting(rng, ledger, words)
     } else if kind == SUBMIT || used == 0 {
         submission(rng, ledger, words)
     } else {
@@ -166,7 +248,10 @@ pub fn any_action(rng: &mut Rng, ledger: &[u32], words: &mut Words) -> Action {
         action.actor = rng.pick(&[provider, 10, 11, 12, 0, 65_535]);
     }
     if rng.chance(8) {
-        return disturb(rng, action);
+        action = disturb(rng, action);
+    }
+    if rng.chance(2) {
+        action = disturb(rng, action);
     }
     action
 }
@@ -231,19 +316,55 @@ pub fn dense(run: &mut Run, seed: u64, count: u32) -> Result<(), Difference> {
 }
 
 fn one_ledger(run: &mut Run, rng: &mut Rng) -> Result<(), Difference> {
-    let start = Twice::new(&sound_ledger(rng, 7, 5));
-    let mut ledger = start.clone();
+    let ledger = sound_ledger(rng, 7, 5);
+    let start = Desk::new(&ledger, &postings_of(rng, &ledger));
+    let mut desk = start.clone();
     let mut words = Words::new();
     for number in 0..24 {
         // Mostly on the ledger as built, now and then on from there.
         if number % 3 == 0 {
-            ledger = start.clone();
+            desk = start.clone();
         }
-        let action = any_action(rng, ledger.words(), &mut words);
-        run.act(&mut ledger, &words, &action)?;
+        let action = any_action(rng, desk.ledger(), &mut words);
+        to_the_limit(run, rng, desk.ledger(), &words, &action)?;
+        run.act(&mut desk, &words, &action)?;
     }
     if rng.chance(20) {
-        run.read_all_out(&ledger)?;
+        run.read_all_out(&desk.ledger)?;
+    }
+    Ok(())
+}
+
+/// The same action with just what it would use posted, and with one less on the
+/// paths up the chain.
+fn to_the_limit(
+    run: &mut Run,
+    rng: &mut Rng,
+    ledger: &[u32],
+    words: &[u32],
+    action: &Action,
+) -> Result<(), Difference> {
+    let mut after = ledger.to_vec();
+    let mut postings = vec![MAX_MW; posting_words(ledger[HOURS])];
+    let answer = act(&mut after, &mut postings, words, action);
+    let asks = answer.after == CONFIRMED || (answer.before, answer.after) == (CONFIRMED, ANNULLED);
+    if answer.number != 0 || !asks {
+        return Ok(());
+    }
+    let hours = ledger[HOURS] as usize;
+    for path in PATHS {
+        set_to_use(&mut postings[posted(path, hours)], &after, path);
+    }
+    run.act(&mut Desk::new(ledger, &postings), words, action)?;
+    // The path of the row, of its related row, and of the one above that.
+    let mut at = answer.reference;
+    while at != 0 {
+        let row = Row::of(ledger, at);
+        let path = posted(row.get(ledger, PATH), hours);
+        let mut lowered = postings.clone();
+        lower(rng, &mut lowered[path]);
+        run.act(&mut Desk::new(ledger, &lowered), words, action)?;
+        at = row.get(ledger, RELATED);
     }
     Ok(())
 }
@@ -256,21 +377,26 @@ pub fn greatest(run: &mut Run, seed: u64) -> Result<(), Difference> {
     for reference in 1..=MAX_ROWS {
         words[USED] = reference;
         let wish = rng.from_to(ORIGINAL_FIRM, RELINQUISH);
-        fill_row(rng, &mut words, reference, wish);
+        let rows_are = Rows { heavy: 0, paths: (1..=MAX_PATH).collect() };
+        fill_row(rng, &mut words, reference, wish, &rows_are);
     }
-    let mut ledger = Twice::new(&words);
+    let postings = vec![MAX_MW; posting_words(MAX_HOURS)];
+    let mut desk = Desk::new(&words, &postings);
     let mut profiles = Words::new();
     let tell = |difference| format!("greatest, seed {seed}: {difference}");
     for _ in 0..40 {
-        let action = any_action(rng, ledger.words(), &mut profiles);
-        run.act(&mut ledger, &profiles, &action).map_err(tell)?;
+        let action = any_action(rng, desk.ledger(), &mut profiles);
+        run.act(&mut desk, &profiles, &action).map_err(tell)?;
     }
-    run.read_out(&ledger, MAX_ROWS).map_err(tell)?;
-    // The very last word, one over.
-    let last = words.len() - 1;
-    ledger.set(last, MAX_MW + 1);
+    run.read_out(&desk.ledger, MAX_ROWS).map_err(tell)?;
+    // The very last word of the postings, one over, and of the ledger.
     let action = Action { kind: 9, ..Action::default() };
-    let answer = run.act(&mut ledger, &profiles, &action).map_err(tell)?;
-    assert_eq!(answer.number, BAD_LEDGER);
+    let mut over = desk.clone();
+    over.postings.set(postings.len() - 1, MAX_MW + 1);
+    desk.ledger.set(words.len() - 1, MAX_MW + 1);
+    for mut desk in [over, desk] {
+        let answer = run.act(&mut desk, &profiles, &action).map_err(tell)?;
+        assert_eq!(answer.number, BAD_LEDGER);
+    }
     Ok(())
 }

@@ -1,12 +1,13 @@
-//! Edges: each head and row word at its bound and one over, damaged ledgers of
-//! any length, wild numbers in every field, creation at its bounds.
+//! Edges: each head, row and posting word at its bound and one over, damaged
+//! ledgers and postings of any length, wild numbers in every field, creation at
+//! its bounds.
 
 use luddrisa_model::*;
 
-use crate::dense::{any_action, sound_ledger};
-use crate::lists::{fields_mut, Words};
+use crate::dense::{any_action, postings_of, sound_ledger};
+use crate::lists::{fields_mut, Words, PATHS};
 use crate::rng::Rng;
-use crate::run::{Difference, Run, Twice};
+use crate::run::{Desk, Difference, Run, Twice};
 
 /// The last number allowed, by word of the head.
 const HEAD_BOUNDS: [u32; HEAD_WORDS] =
@@ -25,7 +26,7 @@ const ROW_BOUNDS: [u32; FIELD_WORDS] = [
     MAX_PRICE,
     MAX_PRICE,
     END_LIMIT - 1,
-    0,
+    MAX_PATH,
     0,
     0,
     0,
@@ -33,8 +34,8 @@ const ROW_BOUNDS: [u32; FIELD_WORDS] = [
 ];
 
 /// The last number allowed, by field of an action.
-const ACTION_BOUNDS: [u32; 14] = [
-    CLOCK,
+const ACTION_BOUNDS: [u32; 15] = [
+    POST,
     MAX_ENTITY,
     MAX_ROWS,
     RELINQUISH,
@@ -48,9 +49,10 @@ const ACTION_BOUNDS: [u32; 14] = [
     END_SECOND - 1,
     MAX_MW,
     MAX_HOURS,
+    MAX_PATH,
 ];
 
-/// Answers 1 on an unsound ledger and 2 on a sound one.
+/// Answers 1 on an unsound ledger or wrong postings, else 2.
 const NO_KIND: Action = Action {
     kind: 9,
     actor: 0,
@@ -66,6 +68,7 @@ const NO_KIND: Action = Action {
     time: 0,
     offset: 0,
     length: 0,
+    path: 0,
 };
 
 /// What a word is set to in turn.
@@ -84,12 +87,20 @@ fn values(old: u32, bound: u32) -> [u32; 10] {
     ]
 }
 
+/// What an action is put to, before it is spoilt.
+struct Ground {
+    ledger: Vec<u32>,
+    postings: Vec<u32>,
+    words: Words,
+}
+
 /// An action that is accepted on the ledger, or at least answered.
-fn base(rng: &mut Rng, ledger: &[u32], words: &mut Words) -> Action {
+fn base(rng: &mut Rng, ground: &mut Ground) -> Action {
+    let Ground { ledger, postings, words } = ground;
     for _ in 0..12 {
         words.clear();
         let action = any_action(rng, ledger, words);
-        if act(&mut ledger.to_vec(), words, &action).number == 0 {
+        if act(&mut ledger.to_vec(), &mut postings.to_vec(), words, &action).number == 0 {
             return action;
         }
     }
@@ -109,29 +120,41 @@ pub fn edges(run: &mut Run, seed: u64, count: u32) -> Result<(), Difference> {
 
 fn one_edge(run: &mut Run, rng: &mut Rng) -> Result<(), Difference> {
     let ledger = sound_ledger(rng, 4, 3);
-    let mut words = Words::new();
-    let action = base(rng, &ledger, &mut words);
-    spoil_words(run, &ledger, &words, &action)?;
-    spoil_action(run, &ledger, &words, &action)?;
-    spoil_slice(run, &ledger, &words, &action)?;
-    damage(run, rng, &ledger, &words, &action)
+    let postings = postings_of(rng, &ledger);
+    let mut ground = Ground { ledger, postings, words: Words::new() };
+    let action = base(rng, &mut ground);
+    spoil_words(run, &ground, &action)?;
+    spoil_postings(run, rng, &ground, &action)?;
+    spoil_action(run, &ground, &action)?;
+    spoil_slice(run, &ground, &action)?;
+    damage(run, rng, &ground, &action)
 }
 
-fn on_a_copy(
-    run: &mut Run,
-    ledger: &[u32],
-    words: &[u32],
-    action: &Action,
-) -> Result<(), Difference> {
-    run.act(&mut Twice::new(ledger), words, action).map(|_| ())
+impl Ground {
+    fn act(&self, run: &mut Run, action: &Action) -> Result<(), Difference> {
+        run.act(&mut Desk::new(&self.ledger, &self.postings), &self.words, action).map(|_| ())
+    }
+
+    fn act_on(&self, run: &mut Run, ledger: &[u32], action: &Action) -> Result<(), Difference> {
+        run.act(&mut Desk::new(ledger, &self.postings), &self.words, action).map(|_| ())
+    }
+
+    fn act_with(&self, run: &mut Run, words: &[u32], action: &Action) -> Result<(), Difference> {
+        run.act(&mut Desk::new(&self.ledger, &self.postings), words, action).map(|_| ())
+    }
+
+    fn act_under(
+        &self,
+        run: &mut Run,
+        postings: &[u32],
+        action: &Action,
+    ) -> Result<(), Difference> {
+        run.act(&mut Desk::new(&self.ledger, postings), &self.words, action).map(|_| ())
+    }
 }
 
-fn spoil_words(
-    run: &mut Run,
-    ledger: &[u32],
-    words: &[u32],
-    action: &Action,
-) -> Result<(), Difference> {
+fn spoil_words(run: &mut Run, ground: &Ground, action: &Action) -> Result<(), Difference> {
+    let ledger = &ground.ledger;
     let row_words = FIELD_WORDS + PROFILES * ledger[HOURS] as usize;
     let mut spoilt = ledger.to_vec();
     for at in 0..ledger.len() {
@@ -141,12 +164,12 @@ fn spoil_words(
         };
         for value in values(ledger[at], bound) {
             spoilt[at] = value;
-            on_a_copy(run, &spoilt, words, action)?;
+            ground.act_on(run, &spoilt, action)?;
         }
         // Soundness by itself, and what is read out.
         for value in [bound, bound + 1] {
             spoilt[at] = value;
-            on_a_copy(run, &spoilt, words, &NO_KIND)?;
+            ground.act_on(run, &spoilt, &NO_KIND)?;
             run.read_out(&Twice::new(&spoilt), 1)?;
         }
         spoilt[at] = ledger[at];
@@ -154,29 +177,75 @@ fn spoil_words(
     // Base and hours at their common bound.
     for base in [END_HOUR - ledger[HOURS], END_HOUR - ledger[HOURS] + 1] {
         spoilt[BASE] = base;
-        on_a_copy(run, &spoilt, words, action)?;
+        ground.act_on(run, &spoilt, action)?;
     }
     Ok(())
 }
 
-fn spoil_action(
+/// Postings of other lengths, and words of them at their bound and over.
+fn spoil_postings(
     run: &mut Run,
-    ledger: &[u32],
-    words: &[u32],
+    rng: &mut Rng,
+    ground: &Ground,
     action: &Action,
 ) -> Result<(), Difference> {
+    let postings = &ground.postings;
+    let hours = ground.ledger[HOURS] as usize;
+    let mut grown = postings.to_vec();
+    grown.extend([0; MAX_PATH as usize + 1]);
+    let kinds = (0..=POST + 1).map(|kind| Action { kind, ..*action });
+    let by_none = Action { actor: 0, ..*action };
+    let actions: Vec<Action> = kinds.chain([*action, by_none, NO_KIND]).collect();
+    let len = postings.len();
+    for length in [0, 1, hours, len - 64, len - 1, len + 1, len + 64, len + 65] {
+        for action in &actions {
+            ground.act_under(run, &grown[..length], action)?;
+        }
+    }
+    let mut spoilt = postings.to_vec();
+    for at in [0, len - 1, rng.below(len as u32) as usize] {
+        spoilt[at] = MAX_MW + 1;
+        for action in &actions {
+            ground.act_under(run, &spoilt, action)?;
+        }
+        spoilt[at] = postings[at];
+    }
+    for at in PATHS.into_iter().flat_map(|path| posted(path, hours)) {
+        for value in values(postings[at], MAX_MW) {
+            spoilt[at] = value;
+            ground.act_under(run, &spoilt, action)?;
+        }
+        spoilt[at] = postings[at];
+    }
+    Ok(())
+}
+
+fn spoil_action(run: &mut Run, ground: &Ground, action: &Action) -> Result<(), Difference> {
     for (field, bound) in ACTION_BOUNDS.into_iter().enumerate() {
         let mut spoilt = *action;
         let old = *fields_mut(&mut spoilt)[field];
         for value in values(old, bound).into_iter().chain(3..18) {
             *fields_mut(&mut spoilt)[field] = value;
-            on_a_copy(run, ledger, words, &spoilt)?;
+            ground.act(run, &spoilt)?;
         }
     }
-    let wild = Action { kind: action.kind, actor: action.actor, ..wild_action() };
-    on_a_copy(run, ledger, words, &wild)?;
-    on_a_copy(run, ledger, words, &Action { reference: action.reference, ..wild })?;
-    on_a_copy(run, ledger, words, &wild_action())
+    // Two fields at once, one over their bound: which is told first?
+    for one in 0..ACTION_BOUNDS.len() {
+        for other in 0..one {
+            let mut spoilt = *action;
+            for field in [one, other] {
+                *fields_mut(&mut spoilt)[field] = ACTION_BOUNDS[field] + 1;
+            }
+            ground.act(run, &spoilt)?;
+        }
+    }
+    // Only what a kind reads, and all else wild.
+    let Action { kind, actor, reference, start, stop, offset, length, path, .. } = *action;
+    let wild = Action { kind, actor, ..wild_action() };
+    ground.act(run, &wild)?;
+    ground.act(run, &Action { reference, ..wild })?;
+    ground.act(run, &Action { path, start, stop, offset, length, ..wild })?;
+    ground.act(run, &wild_action())
 }
 
 fn wild_action() -> Action {
@@ -188,13 +257,9 @@ fn wild_action() -> Action {
 }
 
 /// The slice of profiles cut short, empty, and longer, and profiles at its end.
-fn spoil_slice(
-    run: &mut Run,
-    ledger: &[u32],
-    words: &[u32],
-    action: &Action,
-) -> Result<(), Difference> {
-    on_a_copy(run, ledger, &[], action)?;
+fn spoil_slice(run: &mut Run, ground: &Ground, action: &Action) -> Result<(), Difference> {
+    let words = &ground.words;
+    ground.act_with(run, &[], action)?;
     if action.length == 0 || action.length > 744 {
         return Ok(());
     }
@@ -203,49 +268,49 @@ fn spoil_slice(
     if end > words.len() {
         return Ok(());
     }
-    on_a_copy(run, ledger, &words[..end - 1], action)?;
+    ground.act_with(run, &words[..end - 1], action)?;
     let mut longer = words.to_vec();
     longer.extend([MAX_MW + 1, u32::MAX]);
-    on_a_copy(run, ledger, &longer, action)?;
+    ground.act_with(run, &longer, action)?;
     for offset in [words.len() as u32, u32::MAX - action.length + 1, u32::MAX] {
-        on_a_copy(run, ledger, words, &Action { offset, ..*action })?;
+        ground.act(run, &Action { offset, ..*action })?;
     }
     // Each word at its bound and over, and the profile all 0.
     for at in first..end {
         let mut changed = words.to_vec();
         for value in values(words[at], MAX_MW) {
             changed[at] = value;
-            on_a_copy(run, ledger, &changed, action)?;
+            ground.act_with(run, &changed, action)?;
         }
     }
     let mut none = words.to_vec();
     none[first..end].fill(0);
-    on_a_copy(run, ledger, &none, action)
+    ground.act_with(run, &none, action)
 }
 
 /// Ledgers of every short length, cut or grown ones, and words of no ledger.
 fn damage(
     run: &mut Run,
     rng: &mut Rng,
-    ledger: &[u32],
-    words: &[u32],
+    ground: &Ground,
     action: &Action,
 ) -> Result<(), Difference> {
+    let ledger = &ground.ledger;
     let mut grown = ledger.to_vec();
     grown.extend([0; 24]);
     let lengths =
         (0..=12).chain([ledger.len() - 1, ledger.len() + 1, ledger.len() + 16, ledger.len() + 20]);
     for length in lengths.filter(|&length| length <= grown.len()) {
-        on_a_copy(run, &grown[..length], words, action)?;
+        ground.act_on(run, &grown[..length], action)?;
         run.read_out(&Twice::new(&grown[..length]), 1)?;
         let noise: Vec<u32> = (0..length).map(|_| rng.pick(&[0, 1, 2, 3, u32::MAX])).collect();
-        on_a_copy(run, &noise, words, action)?;
+        ground.act_on(run, &noise, action)?;
         run.read_out(&Twice::new(&noise), 1)?;
     }
     // The head of the greatest ledger, and one whose length wraps 32 bits, over few words.
     for (rows, hours) in [(MAX_ROWS, MAX_HOURS), (1 << 28, 0), (1 << 30, u32::MAX), (0, 0)] {
         let head = [rows, hours, 1, 1, 0, 0, 0, 0];
-        on_a_copy(run, &head, words, action)?;
+        ground.act_on(run, &head, action)?;
     }
     Ok(())
 }
@@ -283,13 +348,13 @@ pub fn sizes(run: &mut Run) -> Result<(), Difference> {
     {
         let mut words = vec![0; ledger_words(rows, hours)];
         words[..4].copy_from_slice(&[rows, hours, 1, 1]);
-        let mut ledger = Twice::new(&words);
-        let answer = run.act(&mut ledger, &[], &NO_KIND)?;
+        let mut desk = Desk::new(&words, &vec![0; posting_words(hours)]);
+        let answer = run.act(&mut desk, &[], &NO_KIND)?;
         let fits = (1..=MAX_ROWS).contains(&rows) && (1..=MAX_HOURS).contains(&hours);
         assert_eq!(answer.number, if fits { BAD_CODE } else { BAD_LEDGER });
         let clock = Action { kind: CLOCK, actor: 1, time: 5, ..NO_KIND };
-        assert_eq!(run.act(&mut ledger, &[], &clock)?.number, if fits { 0 } else { BAD_LEDGER });
-        run.read_out(&ledger, 1)?;
+        assert_eq!(run.act(&mut desk, &[], &clock)?.number, if fits { 0 } else { BAD_LEDGER });
+        run.read_out(&desk.ledger, 1)?;
     }
     Ok(())
 }

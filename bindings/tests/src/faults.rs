@@ -1,5 +1,5 @@
-//! Models with a planted fault. Each keeps to document 01 but for one thing, and
-//! the tests must find every one of them.
+//! Models with a planted fault. Each keeps to documents 01 and 02 but for one
+//! thing, and the tests must find every one of them.
 
 use luddrisa_model::*;
 
@@ -8,15 +8,18 @@ use crate::rules::{Model, Rules};
 /// One action as it was handed over.
 pub struct Case<'a> {
     before: &'a [u32],
+    postings: &'a [u32],
     words: &'a [u32],
     action: &'a Action,
 }
 
-type BatchCall = fn(&mut [u32], &[u32], &[Action], &mut [Answer]) -> u32;
+type BatchCall = fn(&mut [u32], &mut [u32], &[u32], &[Action], &mut [Answer]) -> u32;
 
 /// What the fault replaces, or for actions, what it does after the model.
 enum Fault {
     Act(fn(&Case, &mut [u32], &mut Answer)),
+    /// The same with the postings in the ledger's place.
+    Post(fn(&Case, &mut [u32], &mut Answer)),
     Batch(BatchCall),
     Create(fn(&mut [u32], [u32; 5]) -> u32),
     Charge(fn(&[u32], u32) -> (u32, u64)),
@@ -31,6 +34,8 @@ pub struct Faulty {
     fault: Fault,
     /// True where the tally alone must find it, without the model.
     pub unbalanced: bool,
+    /// True where use against postings alone must find it.
+    pub overused: bool,
 }
 
 impl Rules for Faulty {
@@ -44,21 +49,27 @@ impl Rules for Faulty {
     fn batch(
         &self,
         ledger: &mut [u32],
+        postings: &mut [u32],
         words: &[u32],
         actions: &[Action],
         answers: &mut [Answer],
     ) -> u32 {
         match self.fault {
-            Fault::Batch(batch) => batch(ledger, words, actions, answers),
-            Fault::Act(spoil) if answers.len() >= actions.len() => {
+            Fault::Batch(batch) => batch(ledger, postings, words, actions, answers),
+            Fault::Act(_) | Fault::Post(_) if answers.len() >= actions.len() => {
                 for (action, answer) in actions.iter().zip(answers) {
-                    let before = ledger.to_vec();
-                    *answer = act(ledger, words, action);
-                    spoil(&Case { before: &before, words, action }, ledger, answer);
+                    let (before, posted_before) = (ledger.to_vec(), postings.to_vec());
+                    *answer = act(ledger, postings, words, action);
+                    let case = Case { before: &before, postings: &posted_before, words, action };
+                    match self.fault {
+                        Fault::Act(spoil) => spoil(&case, ledger, answer),
+                        Fault::Post(spoil) => spoil(&case, postings, answer),
+                        _ => (),
+                    }
                 }
                 0
             }
-            _ => Model.batch(ledger, words, actions, answers),
+            _ => Model.batch(ledger, postings, words, actions, answers),
         }
     }
 
@@ -99,6 +110,17 @@ fn refuse(case: &Case, ledger: &mut [u32], answer: &mut Answer, number: u32) {
     *answer = Answer::refused(number);
 }
 
+/// The same for an action that posts.
+fn refuse_post(case: &Case, postings: &mut [u32], answer: &mut Answer, number: u32) {
+    postings.copy_from_slice(case.postings);
+    *answer = Answer::refused(number);
+}
+
+/// True where neither the ledger nor the postings are a 1.
+fn was_sound(case: &Case) -> bool {
+    sound(case.before) && postings_fit(case.postings, case.before[HOURS])
+}
+
 fn row_of(ledger: &[u32], answer: &Answer) -> Option<Row> {
     (answer.number == 0 && answer.reference != 0).then(|| Row::of(ledger, answer.reference))
 }
@@ -114,7 +136,7 @@ fn again(case: &Case, ledger: &mut [u32], answer: &mut Answer, alter: impl Fn(&m
     let mut altered = case.before.to_vec();
     alter(&mut altered, row);
     let mut after = altered.clone();
-    let second = act(&mut after, case.words, case.action);
+    let second = act(&mut after, &mut case.postings.to_vec(), case.words, case.action);
     if second.number != 0 {
         return;
     }
@@ -155,7 +177,7 @@ fn overlook(case: &Case, ledger: &mut [u32], answer: &mut Answer, mend: fn(&mut 
         return;
     }
     let mut after = mended.clone();
-    *answer = act(&mut after, case.words, case.action);
+    *answer = act(&mut after, &mut case.postings.to_vec(), case.words, case.action);
     for (at, word) in ledger.iter_mut().enumerate() {
         *word = if after[at] == mended[at] { case.before[at] } else { after[at] };
     }
@@ -177,17 +199,239 @@ fn at_most(ledger: &mut [u32], field: usize, most: u32) {
     }
 }
 
+// Path limits.
+
+/// How many times a row's available is in the use of a path.
+type Times = fn(&[u32], Row, u32) -> u32;
+
+fn is_confirmed(ledger: &[u32], row: Row) -> bool {
+    row.get(ledger, STATUS) == CONFIRMED
+}
+
+fn related(ledger: &[u32], row: Row) -> Option<Row> {
+    let related = row.get(ledger, RELATED);
+    (related != 0).then(|| Row::of(ledger, related))
+}
+
+/// Rows that the path carries.
+fn carried(ledger: &[u32], row: Row, path: u32) -> u32 {
+    u32::from(is_confirmed(ledger, row) && row.get(ledger, PATH) == path)
+}
+
+/// Rows for which the path is kept free, by a test of type and related row.
+fn kept(ledger: &[u32], row: Row, path: u32, test: fn(&[u32], u32, Row) -> bool) -> u32 {
+    let elsewhere = is_confirmed(ledger, row) && row.get(ledger, PATH) != path;
+    let free = related(ledger, row).is_some_and(|related| {
+        related.get(ledger, PATH) == path && test(ledger, row.get(ledger, TYPE), related)
+    });
+    u32::from(elsewhere && free)
+}
+
+/// As the paper counts.
+fn counted(ledger: &[u32], row: Row, path: u32) -> u32 {
+    carried(ledger, row, path)
+        + kept(ledger, row, path, |ledger, reqtype, related| {
+            reqtype == REDIRECT_NON_FIRM && is_confirmed(ledger, related)
+        })
+}
+
+fn use_by(ledger: &[u32], path: u32, times: Times) -> Vec<u32> {
+    let mut sums = vec![0; ledger[HOURS] as usize];
+    for row in used_rows(ledger) {
+        let times = times(ledger, row, path);
+        for (sum, mw) in sums.iter_mut().zip(&ledger[row.profile(AVAILABLE)]) {
+            *sum += times * mw;
+        }
+    }
+    sums
+}
+
+/// True where use of a path passes its posting in some hour.
+fn over(ledger: &[u32], postings: &[u32], path: u32, times: Times) -> bool {
+    let posted = &postings[posted(path, ledger[HOURS] as usize)];
+    use_by(ledger, path, times).iter().zip(posted).any(|(mw, posted)| mw > posted)
+}
+
+/// The row's path and its related row's.
+fn both_paths(ledger: &[u32], row: Row) -> Vec<u32> {
+    let other = related(ledger, row).map(|related| related.get(ledger, PATH));
+    [row.get(ledger, PATH)].into_iter().chain(other).collect()
+}
+
+fn either_over(ledger: &[u32], postings: &[u32], row: Row, times: Times) -> bool {
+    both_paths(ledger, row).into_iter().any(|path| over(ledger, postings, path, times))
+}
+
+/// The answer where no path had a limit, with the ledger left; a word over
+/// 100,000 is a 1. The rows concerned are put on paths of their own and all
+/// others out of use, which is taken back afterwards.
+fn unlimited(case: &Case) -> (Answer, Vec<u32>) {
+    let row = Row::of(case.before, case.action.reference);
+    let mut altered = case.before.to_vec();
+    for other in used_rows(case.before) {
+        other.set(&mut altered, STATUS, QUEUED);
+    }
+    let mut concerned = Some(row);
+    for path in 1..=3 {
+        if let Some(row) = concerned {
+            row.set(&mut altered, STATUS, row.get(case.before, STATUS));
+            row.set(&mut altered, PATH, path);
+        }
+        concerned = concerned.and_then(|row| related(case.before, row));
+    }
+    let mut after = altered.clone();
+    let mut postings = vec![MAX_MW; case.postings.len()];
+    let mut answer = act(&mut after, &mut postings, case.words, case.action);
+    if answer.number == OVER_POSTING {
+        answer = Answer::refused(BAD_LEDGER);
+    }
+    for (at, word) in after.iter_mut().enumerate() {
+        if *word == altered[at] {
+            *word = case.before[at];
+        }
+    }
+    (answer, after)
+}
+
+/// A confirmation or an annulment of a confirmed row, which 22 is asked of.
+fn asked(case: &Case, answer: &Answer) -> bool {
+    let annuls = (answer.number, answer.before, answer.after) == (0, CONFIRMED, ANNULLED);
+    let refused = answer.number == OVER_POSTING && case.action.kind != POST;
+    refused || annuls || confirms(answer)
+}
+
+/// The limits judged in another way, by the ledger that would be left and the row.
+fn judged(
+    case: &Case,
+    ledger: &mut [u32],
+    answer: &mut Answer,
+    is_over: impl Fn(&[u32], Row) -> bool,
+) {
+    if !asked(case, answer) {
+        return;
+    }
+    let (second, after) = unlimited(case);
+    if second.number != 0 {
+        return;
+    }
+    if is_over(&after, Row::of(&after, case.action.reference)) {
+        refuse(case, ledger, answer, OVER_POSTING);
+    } else {
+        ledger.copy_from_slice(&after);
+        *answer = second;
+    }
+}
+
+/// Available and statuses as a confirmation, or an annulment of a confirmed row,
+/// would leave them, whatever refuses it.
+fn left_nevertheless(case: &Case) -> Vec<u32> {
+    let mut left = case.before.to_vec();
+    let row = Row::of(&left, case.action.reference);
+    let (start, stop) = (row.get(&left, START) as usize, row.get(&left, STOP) as usize);
+    let by_seller = case.action.kind == SELLER_STATUS;
+    let annuls = by_seller && case.action.status == ANNULLED;
+    let relinquishes = row.get(&left, TYPE) == RELINQUISH;
+    let granted = match (annuls, by_seller) {
+        (true, _) => row.span(&left, GRANTED),
+        // Here what is granted equals what was requested.
+        (_, true) => row.span(&left, REQUESTED),
+        _ => wanted(&left, row),
+    };
+    let granted = case.before[granted].to_vec();
+    row.set(&mut left, STATUS, if annuls { ANNULLED } else { CONFIRMED });
+    let related_row = related(&left, row).filter(|&related| is_confirmed(&left, related));
+    let above = related(&left, row).and_then(|redirect| related(&left, redirect));
+    let above = above.filter(|&above| relinquishes && is_confirmed(&left, above));
+    for (hour, mw) in (start..stop).zip(granted) {
+        let at = |row: Row| row.profile(AVAILABLE).start + hour;
+        left[at(row)] = if annuls || relinquishes { 0 } else { mw };
+        if let Some(related) = related_row {
+            let has = left[at(related)];
+            left[at(related)] = if annuls { has + mw } else { has.saturating_sub(mw) };
+        }
+        if let Some(above) = above {
+            left[at(above)] += mw;
+        }
+    }
+    left
+}
+
+/// Is that over the posting of the row's path or of its related row's?
+fn over_nevertheless(case: &Case) -> bool {
+    let left = left_nevertheless(case);
+    either_over(&left, case.postings, Row::of(&left, case.action.reference), counted)
+}
+
+/// A posting's hours.
+fn posted_hours(case: &Case) -> std::ops::Range<usize> {
+    let first = posted(case.action.path, case.before[HOURS] as usize).start;
+    first + case.action.start as usize..first + case.action.stop as usize
+}
+
+/// A posting's profile.
+fn profile_of<'a>(case: &Case<'a>) -> &'a [u32] {
+    let first = case.action.offset as usize;
+    &case.words[first..first + case.action.length as usize]
+}
+
+fn posts(case: &Case, answer: &Answer) -> bool {
+    case.action.kind == POST && answer.number == 0
+}
+
+fn unfit_rows(ledger: &[u32]) -> bool {
+    used_rows(ledger).into_iter().any(|row| {
+        let stays =
+            matches!(row.get(ledger, TYPE), RESALE | PART_TRANSFER | FULL_TRANSFER | RELINQUISH);
+        stays && both_paths(ledger, row).windows(2).any(|two| two[0] != two[1])
+    })
+}
+
+const PLAIN: Faulty =
+    Faulty { name: "", fault: Fault::Act(|_, _, _| ()), unbalanced: false, overused: false };
+
 const fn acting(name: &'static str, spoil: fn(&Case, &mut [u32], &mut Answer)) -> Faulty {
-    Faulty { name, fault: Fault::Act(spoil), unbalanced: false }
+    Faulty { name, fault: Fault::Act(spoil), ..PLAIN }
 }
 
 const fn unbalancing(name: &'static str, spoil: fn(&Case, &mut [u32], &mut Answer)) -> Faulty {
-    Faulty { name, fault: Fault::Act(spoil), unbalanced: true }
+    Faulty { unbalanced: true, ..acting(name, spoil) }
+}
+
+const fn overusing(name: &'static str, spoil: fn(&Case, &mut [u32], &mut Answer)) -> Faulty {
+    Faulty { overused: true, ..acting(name, spoil) }
+}
+
+const fn posting(name: &'static str, spoil: fn(&Case, &mut [u32], &mut Answer)) -> Faulty {
+    Faulty { name, fault: Fault::Post(spoil), ..PLAIN }
+}
+
+const fn overposting(name: &'static str, spoil: fn(&Case, &mut [u32], &mut Answer)) -> Faulty {
+    Faulty { overused: true, ..posting(name, spoil) }
 }
 
 const fn calling(name: &'static str, fault: Fault) -> Faulty {
-    Faulty { name, fault, unbalanced: false }
+    Faulty { name, fault, ..PLAIN }
 }
+
+/// No fault: the limits judged once more, on the ledger as it would be left and by
+/// the use worked out here, before a word over 100,000. It must agree with the
+/// model everywhere.
+pub const JUDGED_APART: Faulty = acting("judges the limits apart", |case, ledger, answer| {
+    let displaces = case.action.kind == SELLER_STATUS && case.action.status == DISPLACED;
+    let last_one = answer.number == BAD_LEDGER && was_sound(case) && !displaces;
+    if !asked(case, answer) && !last_one {
+        return;
+    }
+    let (second, after) = unlimited(case);
+    if over_nevertheless(case) {
+        refuse(case, ledger, answer, OVER_POSTING);
+    } else if second.number != 0 {
+        refuse(case, ledger, answer, second.number);
+    } else {
+        ledger.copy_from_slice(&after);
+        *answer = second;
+    }
+});
 
 /// All planted faults; the first six are those the paper names.
 pub const FAULTS: &[Faulty] = &[
@@ -212,8 +456,8 @@ pub const FAULTS: &[Faulty] = &[
     }),
     calling(
         "books a whole list on its first action",
-        Fault::Batch(|ledger, words, actions, answers| {
-            let number = Model.batch(ledger, words, actions, answers);
+        Fault::Batch(|ledger, postings, words, actions, answers| {
+            let number = Model.batch(ledger, postings, words, actions, answers);
             if number == 0 && actions.len() > 1 {
                 let done = &mut answers[..actions.len()];
                 let all = done.iter().map(|answer| answer.moved).sum();
@@ -329,7 +573,7 @@ pub const FAULTS: &[Faulty] = &[
         }
     }),
     acting("answers a word over 100,000 with 14", |case, _, answer| {
-        if answer.number == BAD_LEDGER && sound(case.before) {
+        if answer.number == BAD_LEDGER && was_sound(case) {
             answer.number = SHORT;
         }
     }),
@@ -515,7 +759,7 @@ pub const FAULTS: &[Faulty] = &[
             }
         });
     }),
-    acting("does not look at the fifth zero", |case, ledger, answer| {
+    acting("does not look at the fourth zero", |case, ledger, answer| {
         overlook(case, ledger, answer, |ledger| at_most(ledger, FIELD_WORDS - 1, 0));
     }),
     acting("does not look at the flags' bound", |case, ledger, answer| {
@@ -580,11 +824,431 @@ pub const FAULTS: &[Faulty] = &[
     acting("does not look at the clock's bound", |case, ledger, answer| {
         overlook(case, ledger, answer, |ledger| ledger[NOW] = ledger[NOW].min(END_SECOND - 1));
     }),
+    acting("does not look at a row's path", |case, ledger, answer| {
+        overlook(case, ledger, answer, |ledger| {
+            for row in used_rows(ledger) {
+                let path = row.get(ledger, PATH).clamp(1, MAX_PATH);
+                row.set(ledger, PATH, path);
+            }
+        });
+    }),
+    acting("takes rows on unfit paths for unsound", |case, ledger, answer| {
+        if was_sound(case) && unfit_rows(case.before) {
+            refuse(case, ledger, answer, BAD_LEDGER);
+        }
+    }),
+    posting("does not look at the postings' bound", |case, postings, answer| {
+        if answer.number == BAD_LEDGER && sound(case.before) && !was_sound(case) {
+            let mut mended = case.postings.to_vec();
+            mended.iter_mut().for_each(|mw| *mw = (*mw).min(MAX_MW));
+            *answer = act(&mut case.before.to_vec(), &mut mended, case.words, case.action);
+            if posts(case, answer) {
+                postings.copy_from_slice(&mended);
+            }
+        }
+    }),
+    acting("does not look at postings beyond the last path", |case, ledger, answer| {
+        if answer.number == BAD_LEDGER && sound(case.before) {
+            let len = posting_words(case.before[HOURS]).min(case.postings.len());
+            let mut front = case.postings[..len].to_vec();
+            *answer = act(ledger, &mut front, case.words, case.action);
+        }
+    }),
+    acting("looks at the kind before the postings", |case, _, answer| {
+        let known = (SUBMIT..=POST).contains(&case.action.kind);
+        if answer.number == BAD_LEDGER && sound(case.before) && !was_sound(case) && !known {
+            answer.number = BAD_CODE;
+        }
+    }),
+    acting("looks at the actor before the postings", |case, _, answer| {
+        let known = (SUBMIT..=POST).contains(&case.action.kind);
+        let entity = is_entity(case.action.actor);
+        if answer.number == BAD_LEDGER && sound(case.before) && !was_sound(case) && known && !entity
+        {
+            answer.number = BAD_PARTY;
+        }
+    }),
+    // Path limits.
+    overusing("looks at the row's path alone", |case, ledger, answer| {
+        judged(case, ledger, answer, |left, row| {
+            over(left, case.postings, row.get(left, PATH), counted)
+        });
+    }),
+    acting("looks at the related row's path alone", |case, ledger, answer| {
+        judged(case, ledger, answer, |left, row| {
+            let path = *both_paths(left, row).last().expect("its own at least");
+            over(left, case.postings, path, counted)
+        });
+    }),
+    overusing("keeps no path free for the return", |case, ledger, answer| {
+        judged(case, ledger, answer, |left, row| either_over(left, case.postings, row, carried));
+    }),
+    acting("keeps the path of a displaced row free", |case, ledger, answer| {
+        let times: Times = |left, row, path| {
+            carried(left, row, path)
+                + kept(left, row, path, |left, reqtype, related| {
+                    let displaced = related.get(left, STATUS) == DISPLACED;
+                    reqtype == REDIRECT_NON_FIRM && (displaced || is_confirmed(left, related))
+                })
+        };
+        judged(case, ledger, answer, |left, row| either_over(left, case.postings, row, times));
+    }),
+    acting("keeps the old path of a firm redirect free", |case, ledger, answer| {
+        let times: Times = |left, row, path| {
+            carried(left, row, path)
+                + kept(left, row, path, |left, reqtype, related| {
+                    matches!(reqtype, REDIRECT_FIRM | REDIRECT_NON_FIRM)
+                        && is_confirmed(left, related)
+                })
+        };
+        judged(case, ledger, answer, |left, row| either_over(left, case.postings, row, times));
+    }),
+    acting("counts a redirect on its related row's path twice", |case, ledger, answer| {
+        let times: Times = |left, row, path| {
+            let there = carried(left, row, path) == 1 && row.get(left, TYPE) == REDIRECT_NON_FIRM;
+            let twice = there
+                && related(left, row).is_some_and(|related| {
+                    is_confirmed(left, related) && related.get(left, PATH) == path
+                });
+            counted(left, row, path) + u32::from(twice)
+        };
+        judged(case, ledger, answer, |left, row| either_over(left, case.postings, row, times));
+    }),
+    acting("counts displaced rows in the use", |case, ledger, answer| {
+        let times: Times = |left, row, path| {
+            let displaced = row.get(left, STATUS) == DISPLACED && row.get(left, PATH) == path;
+            counted(left, row, path) + u32::from(displaced)
+        };
+        judged(case, ledger, answer, |left, row| either_over(left, case.postings, row, times));
+    }),
+    acting("counts displaced megawatts in the use", |case, ledger, answer| {
+        judged(case, ledger, answer, |left, row| {
+            let mut all = left.to_vec();
+            for row in used_rows(left) {
+                for (available, displaced) in row.profile(AVAILABLE).zip(row.profile(DISPLACED_MW))
+                {
+                    all[available] += left[displaced];
+                }
+            }
+            either_over(&all, case.postings, row, counted)
+        });
+    }),
+    acting("counts granted in the use", |case, ledger, answer| {
+        judged(case, ledger, answer, |left, row| {
+            let mut all = left.to_vec();
+            for row in used_rows(left) {
+                all.copy_within(row.profile(GRANTED), row.profile(AVAILABLE).start);
+            }
+            either_over(&all, case.postings, row, counted)
+        });
+    }),
+    overusing("judges the use before the action", |case, ledger, answer| {
+        judged(case, ledger, answer, |_, row| {
+            either_over(case.before, case.postings, row, counted)
+        });
+    }),
+    acting("judges the span's hours alone", |case, ledger, answer| {
+        judged(case, ledger, answer, |left, row| {
+            let (start, stop) = (row.get(left, START) as usize, row.get(left, STOP) as usize);
+            let mut postings = case.postings.to_vec();
+            for (at, word) in postings.iter_mut().enumerate() {
+                if !(start..stop).contains(&(at % row.hours)) {
+                    *word = u32::MAX;
+                }
+            }
+            either_over(left, &postings, row, counted)
+        });
+    }),
+    acting("judges only hours in which use grows", |case, ledger, answer| {
+        judged(case, ledger, answer, |left, row| {
+            both_paths(left, row).into_iter().any(|path| {
+                let was = use_by(case.before, path, counted);
+                let is = use_by(left, path, counted);
+                let posted = &case.postings[posted(path, row.hours)];
+                (0..row.hours).any(|hour| is[hour] > posted[hour] && is[hour] > was[hour])
+            })
+        });
+    }),
+    acting("does not let a path be used in full", |case, ledger, answer| {
+        judged(case, ledger, answer, |left, row| {
+            let less: Vec<u32> = case.postings.iter().map(|mw| mw.saturating_sub(1)).collect();
+            either_over(left, &less, row, counted)
+        });
+    }),
+    acting("looks at the related row's path only while CONFIRMED", |case, ledger, answer| {
+        judged(case, ledger, answer, |left, row| {
+            let there = related(left, row).is_some_and(|related| is_confirmed(left, related));
+            let count = if there { 2 } else { 1 };
+            let paths = both_paths(left, row).into_iter().take(count);
+            paths.into_iter().any(|path| over(left, case.postings, path, counted))
+        });
+    }),
+    acting("asks the row above a redirect instead of the redirect", |case, ledger, answer| {
+        judged(case, ledger, answer, |left, row| {
+            let mut paths = both_paths(left, row);
+            if row.get(left, TYPE) == RELINQUISH {
+                let above = related(left, row).and_then(|redirect| related(left, redirect));
+                paths[1] = above.expect("above a redirect").get(left, PATH);
+            }
+            paths.into_iter().any(|path| over(left, case.postings, path, counted))
+        });
+    }),
+    acting("asks the row above a redirect too", |case, ledger, answer| {
+        judged(case, ledger, answer, |left, row| {
+            let mut paths = both_paths(left, row);
+            if row.get(left, TYPE) == RELINQUISH {
+                let above = related(left, row).and_then(|redirect| related(left, redirect));
+                paths.push(above.expect("above a redirect").get(left, PATH));
+            }
+            paths.into_iter().any(|path| over(left, case.postings, path, counted))
+        });
+    }),
+    acting("judges the limits before available", |case, _, answer| {
+        let confirms = answer.number == SHORT && case.action.kind != REDUCE;
+        if confirms && over_nevertheless(case) {
+            answer.number = OVER_POSTING;
+        }
+    }),
+    acting("judges the limits before a row in use", |case, _, answer| {
+        if answer.number == IN_USE && over_nevertheless(case) {
+            answer.number = OVER_POSTING;
+        }
+    }),
+    acting("judges a word over 100,000 before the limits", |case, _, answer| {
+        if answer.number == OVER_POSTING && case.action.kind != POST {
+            answer.number = match unlimited(case).0.number {
+                BAD_LEDGER => BAD_LEDGER,
+                _ => OVER_POSTING,
+            };
+        }
+    }),
+    acting("holds reductions to the posting", |case, ledger, answer| {
+        let Some(row) = row_of(ledger, answer) else { return };
+        if case.action.kind == REDUCE && either_over(ledger, case.postings, row, counted) {
+            refuse(case, ledger, answer, OVER_POSTING);
+        }
+    }),
+    acting("holds displacing to the posting", |case, ledger, answer| {
+        let Some(row) = row_of(ledger, answer) else { return };
+        if answer.after == DISPLACED && either_over(ledger, case.postings, row, counted) {
+            refuse(case, ledger, answer, OVER_POSTING);
+        }
+    }),
+    acting("holds the annulment of an open row to the posting", |case, ledger, answer| {
+        let Some(row) = row_of(ledger, answer) else { return };
+        let open = answer.after == ANNULLED && answer.before != CONFIRMED;
+        if open && either_over(ledger, case.postings, row, counted) {
+            refuse(case, ledger, answer, OVER_POSTING);
+        }
+    }),
+    acting("holds submissions to the posting", |case, ledger, answer| {
+        let Some(row) = row_of(ledger, answer) else { return };
+        if case.action.kind == SUBMIT {
+            let posted = &case.postings[posted(case.action.path, row.hours)];
+            let requested = &ledger[row.profile(REQUESTED)];
+            if requested.iter().zip(posted).any(|(mw, posted)| mw > posted) {
+                refuse(case, ledger, answer, OVER_POSTING);
+            }
+        }
+    }),
+    // Paths of submissions.
+    acting("asks a redirect to stay on its path", |case, ledger, answer| {
+        let Some(row) = row_of(ledger, answer) else { return };
+        let redirects = matches!(row.get(ledger, TYPE), REDIRECT_FIRM | REDIRECT_NON_FIRM);
+        let leaves = both_paths(ledger, row).windows(2).any(|two| two[0] != two[1]);
+        if case.action.kind == SUBMIT && redirects && leaves {
+            refuse(case, ledger, answer, BAD_PATH);
+        }
+    }),
+    acting("looks at the price before the path", |case, _, answer| {
+        let submits = case.action.kind == SUBMIT;
+        if submits && answer.number == BAD_PATH && case.action.price > MAX_PRICE {
+            answer.number = BAD_TERMS;
+        }
+    }),
+    acting("looks at the path before the flags", |case, _, answer| {
+        let submits = case.action.kind == SUBMIT;
+        if submits && answer.number == BAD_FLAGS && !is_path(case.action.path) {
+            answer.number = BAD_PATH;
+        }
+    }),
+    acting("lets a path be unfit while the row named is not CONFIRMED", |case, _, answer| {
+        let submits = case.action.kind == SUBMIT && is_path(case.action.path);
+        if submits && answer.number == BAD_PATH {
+            let named = Row::of(case.before, case.action.related);
+            if !is_confirmed(case.before, named) {
+                let path = named.get(case.before, PATH);
+                let fit = Action { path, ..*case.action };
+                let postings = &mut case.postings.to_vec();
+                *answer = act(&mut case.before.to_vec(), postings, case.words, &fit);
+            }
+        }
+    }),
+    acting("finds the path of an original that names a row unfit", |case, _, answer| {
+        let original = case.action.kind == SUBMIT && case.action.reqtype <= ORIGINAL_NON_FIRM;
+        if original && answer.number == BAD_RELATED {
+            let named = used_rows(case.before).get(case.action.related as usize - 1).copied();
+            if named.is_some_and(|row| row.get(case.before, PATH) != case.action.path) {
+                answer.number = BAD_PATH;
+            }
+        }
+    }),
+    acting("finds a path unfit where no row is named", |case, _, answer| {
+        let resells = case.action.kind == SUBMIT && case.action.reqtype == RESALE;
+        let named =
+            (1..=case.before.get(USED).copied().unwrap_or(0)).contains(&case.action.related);
+        if resells && answer.number == BAD_RELATED && !named {
+            answer.number = BAD_PATH;
+        }
+    }),
+    acting("knows no path 64", |case, ledger, answer| {
+        if case.action.kind == SUBMIT && answer.number == 0 && case.action.path == MAX_PATH {
+            refuse(case, ledger, answer, BAD_PATH);
+        }
+    }),
+    acting("puts a resale on path 1", |case, ledger, answer| {
+        let Some(row) = row_of(ledger, answer) else { return };
+        if case.action.kind == SUBMIT && case.action.reqtype == RESALE {
+            row.set(ledger, PATH, 1);
+        }
+    }),
+    acting("reads the path of a reduction", |case, ledger, answer| {
+        if case.action.kind == REDUCE && answer.number == 0 && !is_path(case.action.path) {
+            refuse(case, ledger, answer, BAD_PATH);
+        }
+    }),
+    // Postings.
+    overposting("lowers a posting without looking at the use", |case, postings, answer| {
+        if case.action.kind == POST && answer.number == OVER_POSTING {
+            postings[posted_hours(case)].copy_from_slice(profile_of(case));
+            *answer = Answer::default();
+        }
+    }),
+    posting("looks at the posted hours alone", |case, postings, answer| {
+        if case.action.kind == POST && answer.number == OVER_POSTING {
+            let path_use = use_by(case.before, case.action.path, counted);
+            let (start, stop) = (case.action.start as usize, case.action.stop as usize);
+            if path_use[start..stop].iter().zip(profile_of(case)).all(|(mw, posted)| mw <= posted) {
+                postings[posted_hours(case)].copy_from_slice(profile_of(case));
+                *answer = Answer::default();
+            }
+        }
+    }),
+    posting("posts what no non-firm redirect could return to", |case, postings, answer| {
+        if case.action.kind == POST && answer.number == OVER_POSTING {
+            let mut lowered = case.postings.to_vec();
+            lowered[posted_hours(case)].copy_from_slice(profile_of(case));
+            if !over(case.before, &lowered, case.action.path, carried) {
+                postings.copy_from_slice(&lowered);
+                *answer = Answer::default();
+            }
+        }
+    }),
+    overposting("writes a refused posting", |case, postings, answer| {
+        if case.action.kind == POST && answer.number == OVER_POSTING {
+            postings[posted_hours(case)].copy_from_slice(profile_of(case));
+        }
+    }),
+    posting("posts over all hours of the path", |case, postings, answer| {
+        if posts(case, answer) {
+            let hours = case.before[HOURS] as usize;
+            let last = *profile_of(case).last().expect("an hour");
+            postings[posted(case.action.path, hours)][case.action.stop as usize..].fill(last);
+        }
+    }),
+    posting("posts to the next path", |case, postings, answer| {
+        if posts(case, answer) && case.action.path < MAX_PATH {
+            let hours = case.before[HOURS] as usize;
+            let at = posted_hours(case);
+            postings.copy_from_slice(case.postings);
+            postings[at.start + hours..at.end + hours].copy_from_slice(profile_of(case));
+        }
+    }),
+    posting("adds to the posting before", |case, postings, answer| {
+        if posts(case, answer) {
+            for at in posted_hours(case) {
+                postings[at] = (postings[at] + case.postings[at]).min(MAX_MW);
+            }
+        }
+    }),
+    posting("refuses to post nothing", |case, postings, answer| {
+        if posts(case, answer) && profile_of(case).iter().all(|&mw| mw == 0) {
+            refuse_post(case, postings, answer, BAD_PROFILE);
+        }
+    }),
+    posting("reads the price of a posting", |case, postings, answer| {
+        if posts(case, answer) && case.action.price > MAX_PRICE {
+            refuse_post(case, postings, answer, BAD_TERMS);
+        }
+    }),
+    posting("reads the reference of a posting", |case, postings, answer| {
+        if posts(case, answer) && case.action.reference > case.before[USED] {
+            refuse_post(case, postings, answer, NO_REFERENCE);
+        }
+    }),
+    posting("lets anyone post", |case, postings, answer| {
+        let entity = is_entity(case.action.actor);
+        if case.action.kind == POST && answer.number == BAD_PARTY && entity {
+            let by_provider = Action { actor: case.before[PROVIDER], ..*case.action };
+            *answer = act(&mut case.before.to_vec(), postings, case.words, &by_provider);
+        }
+    }),
+    acting("looks at the hours of a posting before its path", |case, _, answer| {
+        let Action { kind, start, stop, .. } = *case.action;
+        if kind == POST && answer.number == BAD_PATH && (start >= stop || stop > case.before[HOURS])
+        {
+            answer.number = BAD_SPAN;
+        }
+    }),
+    acting("answers a posting with its MW-hours", |case, _, answer| {
+        if posts(case, answer) {
+            answer.moved = profile_of(case).iter().sum();
+        }
+    }),
     // The batch and the other calls.
     calling(
+        "posts only after the list",
+        Fault::Batch(|ledger, postings, words, actions, answers| {
+            if answers.len() < actions.len() {
+                return 17;
+            }
+            let before = postings.to_vec();
+            for (action, answer) in actions.iter().zip(answers) {
+                let mut anew = before.clone();
+                *answer = act(ledger, &mut anew, words, action);
+                for (at, word) in anew.into_iter().enumerate() {
+                    if word != before[at] {
+                        postings[at] = word;
+                    }
+                }
+            }
+            0
+        }),
+    ),
+    calling(
+        "looks at the postings of an empty list",
+        Fault::Batch(|ledger, postings, words, actions, answers| {
+            let fit = ledger.len() < 8 || postings_fit(postings, ledger[HOURS].min(MAX_HOURS));
+            if actions.is_empty() && !fit {
+                return BAD_LEDGER;
+            }
+            Model.batch(ledger, postings, words, actions, answers)
+        }),
+    ),
+    calling(
+        "looks at the postings before the places",
+        Fault::Batch(|ledger, postings, words, actions, answers| {
+            let fit = ledger.len() < 8 || postings_fit(postings, ledger[HOURS].min(MAX_HOURS));
+            if answers.len() < actions.len() && !fit {
+                return BAD_LEDGER;
+            }
+            Model.batch(ledger, postings, words, actions, answers)
+        }),
+    ),
+    calling(
         "writes a spare answer place",
-        Fault::Batch(|ledger, words, actions, answers| {
-            let number = Model.batch(ledger, words, actions, answers);
+        Fault::Batch(|ledger, postings, words, actions, answers| {
+            let number = Model.batch(ledger, postings, words, actions, answers);
             if let Some(spare) = answers.get_mut(actions.len()) {
                 *spare = Answer::default();
             }
@@ -593,9 +1257,9 @@ pub const FAULTS: &[Faulty] = &[
     ),
     calling(
         "does what fits when places are too few",
-        Fault::Batch(|ledger, words, actions, answers| {
+        Fault::Batch(|ledger, postings, words, actions, answers| {
             let fits = actions.len().min(answers.len());
-            Model.batch(ledger, words, &actions[..fits], answers);
+            Model.batch(ledger, postings, words, &actions[..fits], answers);
             if fits < actions.len() {
                 17
             } else {
@@ -605,22 +1269,22 @@ pub const FAULTS: &[Faulty] = &[
     ),
     calling(
         "gives 17 for an empty list",
-        Fault::Batch(|ledger, words, actions, answers| {
+        Fault::Batch(|ledger, postings, words, actions, answers| {
             if actions.is_empty() {
                 return 17;
             }
-            Model.batch(ledger, words, actions, answers)
+            Model.batch(ledger, postings, words, actions, answers)
         }),
     ),
     calling(
         "ends the list at the first refusal",
-        Fault::Batch(|ledger, words, actions, answers| {
+        Fault::Batch(|ledger, postings, words, actions, answers| {
             if answers.len() < actions.len() {
                 return 17;
             }
             let mut stopped = None;
             for (action, answer) in actions.iter().zip(answers) {
-                *answer = stopped.unwrap_or_else(|| act(ledger, words, action));
+                *answer = stopped.unwrap_or_else(|| act(ledger, postings, words, action));
                 if answer.number != 0 {
                     stopped = Some(*answer);
                 }

@@ -1,16 +1,18 @@
-//! Differential tests: anything that claims to carry out document 01 is held
-//! against the model, action by action and word by word.
+//! Differential tests: anything that claims to carry out the rules of documents 01
+//! and 02 is held against the model, action by action and word by word.
 //!
 //! The generators are `lists` (from fresh ledgers, biased to accepted actions
 //! and deep chains), `dense` (any kind on any sound ledger), `edges` (words and
-//! fields at their bounds and over), `batches` and `stamps`. `faults` holds
-//! models with a planted fault; the tests prove that each is caught.
+//! fields at their bounds and over), `batches` and `stamps`. `limits` works out
+//! the use of paths apart from the model. `faults` holds models with a planted
+//! fault; the tests prove that each is caught.
 
 pub mod batches;
 pub mod converted;
 pub mod dense;
 pub mod edges;
 pub mod faults;
+pub mod limits;
 pub mod lists;
 pub mod reached;
 pub mod rng;

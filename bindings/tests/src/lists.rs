@@ -1,12 +1,18 @@
-//! Lists from fresh ledgers, biased to accepted actions and deep chains: resale
-//! of redirect of resale, transfers, relinquishing, displacement, annulments,
-//! lapses and the clock. After each list the tally must balance.
+//! Lists from fresh ledgers with nothing posted, biased to accepted actions and
+//! deep chains: resale of redirect of resale, transfers, relinquishing,
+//! displacement, annulments, lapses, the clock, and postings going up and down on
+//! several paths. After each action no path is used beyond its posting, and after
+//! each list the tally must balance.
 
 use luddrisa_model::*;
 
+use crate::limits::within;
 use crate::rng::Rng;
 use crate::rules::Rules;
-use crate::run::{Difference, Run, Twice, UNWRITTEN};
+use crate::run::{Desk, Difference, Run, UNWRITTEN};
+
+/// The paths that are traded on.
+pub const PATHS: [u32; 4] = [1, 2, 33, MAX_PATH];
 
 /// Where profiles of a list are kept.
 pub type Words = Vec<u32>;
@@ -17,7 +23,16 @@ pub struct Answered {
     pub words: Words,
     pub actions: Vec<Action>,
     pub answers: Vec<Answer>,
-    pub ledger: Twice,
+    pub desk: Desk,
+}
+
+/// How a list goes.
+#[derive(Clone, Copy)]
+struct Mood {
+    /// Nothing confirmed is displaced or annulled, so that chains grow.
+    calm: bool,
+    /// Postings are low.
+    tight: bool,
 }
 
 /// Creation numbers of a small ledger.
@@ -83,7 +98,7 @@ pub fn submission(rng: &mut Rng, ledger: &[u32], words: &mut Words) -> Action {
         let start = rng.below(hours);
         let stop = rng.from_to(start + 1, hours);
         let (start, stop) = if rng.chance(70) { (0, hours) } else { (start, stop) };
-        let most = rng.pick(&[10, 1_000, MAX_MW]);
+        let most = rng.pick(&[10, 10, 1_000, 1_000, 1_000, 20_000, MAX_MW]);
         let profile: Vec<u32> = (start..stop).map(|_| rng.from_to(most / 2 + 1, most)).collect();
         let action = Action {
             kind: SUBMIT,
@@ -94,6 +109,7 @@ pub fn submission(rng: &mut Rng, ledger: &[u32], words: &mut Words) -> Action {
             stop,
             flags,
             price,
+            path: rng.pick(&PATHS),
             ..Action::default()
         };
         return with_profile(words, action, &profile);
@@ -135,6 +151,8 @@ pub fn submission(rng: &mut Rng, ledger: &[u32], words: &mut Words) -> Action {
         flags |= PRECONFIRMED;
     }
     let trades = matches!(reqtype, RESALE | PART_TRANSFER | FULL_TRANSFER);
+    let leaves = matches!(reqtype, REDIRECT_FIRM | REDIRECT_NON_FIRM) && rng.chance(60);
+    let path = if leaves || rng.chance(2) { rng.pick(&PATHS) } else { row.get(ledger, PATH) };
     let action = Action {
         kind: SUBMIT,
         actor: if trades { customer_of(rng, ledger) } else { holder },
@@ -145,9 +163,64 @@ pub fn submission(rng: &mut Rng, ledger: &[u32], words: &mut Words) -> Action {
         stop,
         flags,
         price,
+        path,
         ..Action::default()
     };
     with_profile(words, action, &profile)
+}
+
+/// What a posting sets its hours to.
+#[derive(Clone, Copy)]
+enum Level {
+    Full,
+    AboveUse,
+    Use,
+    BelowUse,
+    Any,
+    Nothing,
+}
+
+/// A posting of one of the paths: up, down to the use, or below it.
+pub fn posting(rng: &mut Rng, ledger: &[u32], words: &mut Words) -> Action {
+    let path = if rng.chance(95) { rng.pick(&PATHS) } else { rng.from_to(1, MAX_PATH) };
+    let level = match rng.below(100) {
+        0..45 => Level::Full,
+        45..60 => Level::AboveUse,
+        60..75 => Level::Use,
+        75..85 => Level::BelowUse,
+        85..95 => Level::Any,
+        _ => Level::Nothing,
+    };
+    let hours = ledger[HOURS];
+    let start = rng.below(hours);
+    let stop = rng.from_to(start + 1, hours);
+    let (start, stop) = if rng.chance(60) { (0, hours) } else { (start, stop) };
+    let action = Action { kind: POST, path, start, stop, ..Action::default() };
+    at_level(rng, ledger, words, action, level)
+}
+
+/// The provider's posting with a profile.
+fn at_level(
+    rng: &mut Rng,
+    ledger: &[u32],
+    words: &mut Words,
+    action: Action,
+    level: Level,
+) -> Action {
+    let path_use = path_use(ledger, action.path);
+    let profile: Vec<u32> = path_use[action.start as usize..action.stop as usize]
+        .iter()
+        .map(|&mw| match level {
+            Level::Full => MAX_MW,
+            Level::AboveUse => mw + rng.below(2_000),
+            Level::Use => mw,
+            Level::BelowUse => mw.saturating_sub(rng.below(2)),
+            Level::Any => rng.from_to(0, MAX_MW),
+            Level::Nothing => 0,
+        })
+        .map(|mw| mw.min(MAX_MW))
+        .collect();
+    with_profile(words, Action { actor: ledger[PROVIDER], ..action }, &profile)
 }
 
 /// The next step of an open row.
@@ -187,7 +260,9 @@ fn step(rng: &mut Rng, ledger: &[u32], words: &mut Words, reference: u32) -> Act
         return Action { status, ..by_seller };
     }
     if die < 6 {
-        return Action { status: WITHDRAWN, ..by_customer };
+        // Its profile is not read.
+        let length = rng.pick(&[0, 0, u32::MAX]);
+        return Action { status: WITHDRAWN, length, ..by_customer };
     }
     match status {
         QUEUED | RECEIVED | STUDY | REBID if die < 18 => {
@@ -238,9 +313,23 @@ fn step(rng: &mut Rng, ledger: &[u32], words: &mut Words, reference: u32) -> Act
     }
 }
 
-/// The next action of a list; while it is calm nothing confirmed is displaced
-/// or annulled, so that chains grow.
-fn next_action(rng: &mut Rng, ledger: &[u32], words: &mut Words, calm: bool) -> Action {
+/// The next action of a list.
+fn next_action(
+    rng: &mut Rng,
+    ledger: &[u32],
+    postings: &[u32],
+    words: &mut Words,
+    Mood { calm, tight }: Mood,
+) -> Action {
+    // A path with nothing posted is seen to soon.
+    let hours = ledger[HOURS] as usize;
+    let is_idle = |path: &u32| postings[posted(*path, hours)].iter().all(|&mw| mw == 0);
+    let idle = PATHS.into_iter().find(is_idle);
+    if let Some(path) = idle.filter(|_| rng.chance(30)) {
+        let action = Action { kind: POST, path, stop: ledger[HOURS], ..Action::default() };
+        let level = if tight { rng.pick(&[Level::AboveUse, Level::Any]) } else { Level::Full };
+        return at_level(rng, ledger, words, action, level);
+    }
     let open = rows_that(ledger, |row| is_open(row.get(ledger, STATUS)));
     let held = confirmed(ledger);
     let provider = Action { actor: ledger[PROVIDER], ..Action::default() };
@@ -251,6 +340,7 @@ fn next_action(rng: &mut Rng, ledger: &[u32], words: &mut Words, calm: bool) -> 
         (false, _) => rng.below(100),
     };
     let action = match die {
+        _ if rng.chance(4) => posting(rng, ledger, words),
         0..4 => {
             let steps = [0, 1, ledger[WINDOW], ledger[WINDOW] / 2 + 1];
             Action { kind: CLOCK, time: ledger[NOW].saturating_add(rng.pick(&steps)), ..provider }
@@ -286,7 +376,7 @@ fn next_action(rng: &mut Rng, ledger: &[u32], words: &mut Words, calm: bool) -> 
 
 /// One field a little off, or far off.
 pub fn disturb(rng: &mut Rng, mut action: Action) -> Action {
-    let field = rng.below(14) as usize;
+    let field = rng.below(15) as usize;
     let word = &mut *fields_mut(&mut action)[field];
     *word = match rng.below(5) {
         0 => word.wrapping_add(1),
@@ -298,8 +388,8 @@ pub fn disturb(rng: &mut Rng, mut action: Action) -> Action {
     action
 }
 
-/// The 14 fields of an action.
-pub fn fields_mut(action: &mut Action) -> [&mut u32; 14] {
+/// The 15 fields of an action.
+pub fn fields_mut(action: &mut Action) -> [&mut u32; 15] {
     let Action {
         kind,
         actor,
@@ -315,28 +405,32 @@ pub fn fields_mut(action: &mut Action) -> [&mut u32; 14] {
         time,
         offset,
         length,
+        path,
     } = action;
     [
         kind, actor, reference, reqtype, status, seller, related, start, stop, flags, price, time,
-        offset, length,
+        offset, length, path,
     ]
 }
 
 /// One list, action by action.
 pub fn list(run: &mut Run, rng: &mut Rng, length: u32) -> Result<Answered, Difference> {
     let numbers = small_numbers(rng);
-    let mut ledger = run.fresh(numbers)?;
+    let mut desk = run.fresh(numbers)?;
     let mut words = Words::new();
     let mut actions = Vec::new();
     let mut answers = Vec::new();
     let calm = if rng.chance(70) { length / 2 } else { 0 };
+    let tight = rng.chance(20);
     for number in 0..length {
-        let action = next_action(rng, ledger.words(), &mut words, number < calm);
-        let answer = run.act(&mut ledger, &words, &action)?;
+        let mood = Mood { calm: number < calm, tight };
+        let action = next_action(rng, desk.ledger(), desk.postings(), &mut words, mood);
+        let answer = run.act(&mut desk, &words, &action)?;
+        within(desk.ledger(), desk.postings()).map_err(|told| format!("{action:?}: {told}"))?;
         actions.push(action);
         answers.push(answer);
     }
-    Ok(Answered { numbers, words, actions, answers, ledger })
+    Ok(Answered { numbers, words, actions, answers, desk })
 }
 
 /// Lists, each balanced, read out, and given again in batches.
@@ -356,56 +450,73 @@ fn one_list(run: &mut Run, rng: &mut Rng) -> Result<(), Difference> {
     for (action, answer) in answered.actions.iter().zip(&answered.answers) {
         tally.feed(&answered.words, action, answer);
     }
-    balanced(answered.ledger.words(), &tally)?;
-    run.read_all_out(&answered.ledger)?;
+    balanced(answered.desk.ledger(), &tally)?;
+    run.read_all_out(&answered.desk.ledger)?;
 
     // The same list again with all its words there from the start, one by one and
     // in batches: a profile that was outside its slice may now be inside.
-    let mut ledger = run.fresh(answered.numbers)?;
+    let mut desk = run.fresh(answered.numbers)?;
     let mut one_by_one = Vec::new();
     for action in &answered.actions {
-        one_by_one.push(run.act(&mut ledger, &answered.words, action)?);
+        one_by_one.push(run.act(&mut desk, &answered.words, action)?);
     }
-    let left_behind = ledger;
-    let mut ledger = run.fresh(answered.numbers)?;
+    let left_behind = desk;
+    let mut desk = run.fresh(answered.numbers)?;
     let mut tally = Tally::new(answered.numbers[1]);
     let mut left = &answered.actions[..];
     let mut given = Vec::new();
     while !left.is_empty() {
         let (now, later) = left.split_at(rng.from_to(1, left.len() as u32) as usize);
-        let (number, answers) = run.batch(&mut ledger, &answered.words, now, now.len())?;
+        let (number, answers) = run.batch(&mut desk, &answered.words, now, now.len())?;
         tally.feed_list(&answered.words, now, &answers, number);
         given.extend(answers);
         left = later;
     }
-    if given != one_by_one || ledger.words() != left_behind.words() {
+    let left = (desk.ledger(), desk.postings());
+    if given != one_by_one || left != (left_behind.ledger(), left_behind.postings()) {
         return Err("in batches the list is answered otherwise than one by one".into());
     }
-    balanced(ledger.words(), &tally)
+    within(desk.ledger(), desk.postings())?;
+    balanced(desk.ledger(), &tally)
 }
 
 /// A list answered by the subject alone: does its ledger balance?
 pub fn balance_of(subject: &dyn Rules, seed: u64) -> Result<(), String> {
-    balance_of_list(subject, seed).map_err(|told| format!("balance, seed {seed}: {told}"))
+    alone(subject, seed, |ledger, _, tally| balanced(ledger, tally))
+        .map_err(|told| format!("balance, seed {seed}: {told}"))
 }
 
-fn balance_of_list(subject: &dyn Rules, seed: u64) -> Result<(), String> {
+/// A list answered by the subject alone: is each path used within its posting?
+pub fn limits_of(subject: &dyn Rules, seed: u64) -> Result<(), String> {
+    alone(subject, seed, |ledger, postings, _| within(ledger, postings))
+        .map_err(|told| format!("limits, seed {seed}: {told}"))
+}
+
+/// A list answered by the subject, what it left looked at after each action.
+fn alone(
+    subject: &dyn Rules,
+    seed: u64,
+    look: impl Fn(&[u32], &[u32], &Tally) -> Result<(), String>,
+) -> Result<(), String> {
     let rng = &mut Rng::new(seed);
     let numbers = small_numbers(rng);
     let mut ledger = vec![0; ledger_words(numbers[0], numbers[1])];
+    let mut postings = vec![0; posting_words(numbers[1])];
     if subject.create(&mut ledger, numbers) != 0 {
         return Err("not created".into());
     }
     let mut tally = Tally::new(numbers[1]);
     let mut words = Words::new();
     for number in 0..100 {
-        let action = next_action(rng, &ledger, &mut words, number < 40);
+        let mood = Mood { calm: number < 40, tight: seed.is_multiple_of(2) };
+        let action = next_action(rng, &ledger, &postings, &mut words, mood);
         let mut answer = [UNWRITTEN];
-        let number = subject.batch(&mut ledger, &words, &[action], &mut answer);
+        let number = subject.batch(&mut ledger, &mut postings, &words, &[action], &mut answer);
         tally.feed_list(&words, &[action], &answer, number);
-        if !sound(&ledger) {
+        if !sound(&ledger) || !postings_fit(&postings, ledger[HOURS]) {
             return Err("unsound".into());
         }
+        look(&ledger, &postings, &tally)?;
     }
-    balanced(&ledger, &tally)
+    Ok(())
 }

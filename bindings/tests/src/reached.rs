@@ -1,29 +1,38 @@
-//! What document 01 lists and the tests must reach, written down from the paper.
+//! What documents 01 and 02 list and the tests must reach, written down from them.
 
 use std::collections::{BTreeMap, BTreeSet};
 
 use luddrisa_model::*;
 
-/// Stands for every kind that is not 1 to 7.
+/// Stands for every kind that is not 1 to 8.
 pub const NO_KIND: u32 = 0;
 
 /// Each kind with the numbers it can give; a 1 here is an unsound ledger.
-pub const PAIRS: [(u32, &[u32]); 8] = [
+pub const PAIRS: [(u32, &[u32]); 9] = [
     (NO_KIND, &[1, 2]),
-    (SUBMIT, &[0, 1, 2, 3, 6, 7, 8, 9, 10, 12]),
+    (SUBMIT, &[0, 1, 2, 3, 6, 7, 8, 9, 10, 12, 21]),
     // 13 never: an unapproved transfer stays at 10.
-    (SELLER_STATUS, &[0, 1, 2, 3, 4, 7, 9, 11, 12, 14, 15]),
-    (CUSTOMER_STATUS, &[0, 1, 2, 3, 4, 7, 9, 11, 12, 13, 14]),
+    (SELLER_STATUS, &[0, 1, 2, 3, 4, 7, 9, 11, 12, 14, 15, 22]),
+    (CUSTOMER_STATUS, &[0, 1, 2, 3, 4, 7, 9, 11, 12, 13, 14, 22]),
     // 13 never: it counts as approved.
-    (APPROVE, &[0, 1, 3, 4, 9, 11, 14]),
+    (APPROVE, &[0, 1, 3, 4, 9, 11, 14, 22]),
     (REDUCE, &[0, 1, 3, 4, 7, 11, 14]),
-    (LAPSE, &[0, 1, 3, 4, 9, 11, 13, 14, 16]),
+    (LAPSE, &[0, 1, 3, 4, 9, 11, 13, 14, 16, 22]),
     (CLOCK, &[0, 1, 3, 5]),
+    (POST, &[0, 1, 3, 6, 7, 21, 22]),
 ];
 
-/// The kinds that can give 1 on a sound ledger, for a word over 100,000:
-/// displacing, annulling and confirming a type 8 row.
+/// The kinds that can give 1 on a sound ledger and its postings, for a word over
+/// 100,000: displacing, annulling and confirming a type 8 row.
 pub const OVER_BOUND: [u32; 3] = [SELLER_STATUS, CUSTOMER_STATUS, LAPSE];
+
+/// What a 1 was for; all other numbers are plain.
+#[derive(Clone, Copy, Debug, PartialEq, Eq, PartialOrd, Ord)]
+pub enum Of {
+    Plain,
+    WrongPostings,
+    WordOverBound,
+}
 
 /// The numbers of the other calls.
 pub const CHARGE: [u32; 4] = [0, 1, 4, 11];
@@ -35,7 +44,7 @@ pub const WRITE_STAMP: [u32; 2] = [0, 19];
 const OPEN: [u32; 8] = [1, 3, 4, 6, 7, 8, 10, 11];
 
 /// Accepted moves: kind, status after, statuses before.
-const MOVES: [(u32, u32, &[u32]); 23] = [
+const MOVES: [(u32, u32, &[u32]); 24] = [
     (SUBMIT, 1, &[0]),
     (SELLER_STATUS, 3, &[1]),
     (SELLER_STATUS, 4, &[1, 3]),
@@ -61,6 +70,7 @@ const MOVES: [(u32, u32, &[u32]); 23] = [
     (LAPSE, 17, &[6, 7, 10, 11]),
     (LAPSE, 13, &[11]),
     (CLOCK, 0, &[0]),
+    (POST, 0, &[0]),
 ];
 
 /// What an accepted action did with megawatts.
@@ -85,20 +95,34 @@ type Effect = (u32, Moved, u32, Back);
 /// What a run reached.
 #[derive(Clone, Debug, Default)]
 pub struct Reached {
-    /// Kind, number, and whether it is a 1 on a sound ledger; how often.
-    pairs: BTreeMap<(u32, u32, bool), u64>,
+    /// Kind, number, and what a 1 was for; how often.
+    pairs: BTreeMap<(u32, u32, Of), u64>,
     /// Kind, status before, status after of accepted actions.
     moves: BTreeSet<(u32, u32, u32)>,
     effects: BTreeSet<Effect>,
+    /// Kind, what it would have done, and type of the rows refused with 22.
+    over_posting: BTreeSet<(u32, Moved, u32)>,
     calls: BTreeSet<(&'static str, u32)>,
 }
 
 impl Reached {
-    /// Notes an answer; the ledger is as the action left it.
-    pub fn note(&mut self, ledger: &[u32], action: &Action, answer: &Answer) {
-        let kind = if (SUBMIT..=CLOCK).contains(&action.kind) { action.kind } else { NO_KIND };
-        let over_bound = answer.number == BAD_LEDGER && sound(ledger);
-        *self.pairs.entry((kind, answer.number, over_bound)).or_default() += 1;
+    /// Notes an answer; the ledger and its postings are as the action left them.
+    pub fn note(&mut self, ledger: &[u32], postings: &[u32], action: &Action, answer: &Answer) {
+        let kind = if (SUBMIT..=POST).contains(&action.kind) { action.kind } else { NO_KIND };
+        let of = match answer.number {
+            BAD_LEDGER if sound(ledger) && !postings_fit(postings, ledger[HOURS]) => {
+                Of::WrongPostings
+            }
+            BAD_LEDGER if sound(ledger) => Of::WordOverBound,
+            _ => Of::Plain,
+        };
+        *self.pairs.entry((kind, answer.number, of)).or_default() += 1;
+        if answer.number == OVER_POSTING && kind != POST {
+            let annuls = kind == SELLER_STATUS && action.status == ANNULLED;
+            let moved = if annuls { Moved::Annulled } else { Moved::Confirmed };
+            let reqtype = Row::of(ledger, action.reference).get(ledger, TYPE);
+            self.over_posting.insert((kind, moved, reqtype));
+        }
         if answer.number != 0 {
             return;
         }
@@ -135,9 +159,12 @@ impl Reached {
         let mut lines = String::new();
         for (kind, _) in PAIRS {
             lines.push_str(&format!("kind {kind}:"));
-            for (&(_, number, over), times) in self.pairs.iter().filter(|(pair, _)| pair.0 == kind)
-            {
-                let mark = if over { " (word over 100,000)" } else { "" };
+            for (&(_, number, of), times) in self.pairs.iter().filter(|(pair, _)| pair.0 == kind) {
+                let mark = match of {
+                    Of::Plain => "",
+                    Of::WrongPostings => " (postings)",
+                    Of::WordOverBound => " (word over 100,000)",
+                };
                 lines.push_str(&format!(" {number}{mark} × {times};"));
             }
             lines.push('\n');
@@ -145,12 +172,18 @@ impl Reached {
         lines
     }
 
+    /// What was refused with 22, by what would have moved and the type.
+    pub fn over_posting(&self) -> BTreeSet<(Moved, u32)> {
+        self.over_posting.iter().map(|&(_, moved, reqtype)| (moved, reqtype)).collect()
+    }
+
     /// The tables against what was reached: nothing missing, nothing beside.
     pub fn check(&self) -> Result<(), String> {
         let pairs = self.pairs.keys().copied().collect();
-        same("pair (kind, number, word over 100,000)", &listed_pairs(), &pairs)?;
+        same("pair (kind, number, what a 1 is for)", &listed_pairs(), &pairs)?;
         same("move (kind, before, after)", &listed_moves(), &self.moves)?;
         same("effect (kind, moved, type, given back)", &listed_effects(), &self.effects)?;
+        same("22 (kind, moved, type)", &listed_over_posting(), &self.over_posting)?;
         same("call (name, number)", &listed_calls(), &self.calls)
     }
 }
@@ -168,12 +201,30 @@ fn same<T: Ord + std::fmt::Debug>(
     Err(format!("{what}: never reached {missing:?}, not in the paper {beside:?}"))
 }
 
-pub fn listed_pairs() -> BTreeSet<(u32, u32, bool)> {
+pub fn listed_pairs() -> BTreeSet<(u32, u32, Of)> {
     let plain = PAIRS
         .iter()
-        .flat_map(|&(kind, numbers)| numbers.iter().map(move |&number| (kind, number, false)));
-    let over = OVER_BOUND.iter().map(|&kind| (kind, BAD_LEDGER, true));
-    plain.chain(over).collect()
+        .flat_map(|&(kind, numbers)| numbers.iter().map(move |&number| (kind, number, Of::Plain)));
+    let postings = PAIRS.iter().map(|&(kind, _)| (kind, BAD_LEDGER, Of::WrongPostings));
+    let over = OVER_BOUND.iter().map(|&kind| (kind, BAD_LEDGER, Of::WordOverBound));
+    plain.chain(postings).chain(over).collect()
+}
+
+/// On foreign ledgers every confirmation and every annulment can meet it.
+pub fn listed_over_posting() -> BTreeSet<(u32, Moved, u32)> {
+    let mut listed = BTreeSet::new();
+    for reqtype in ORIGINAL_FIRM..=RELINQUISH {
+        for kind in [SELLER_STATUS, CUSTOMER_STATUS, LAPSE] {
+            listed.insert((kind, Moved::Confirmed, reqtype));
+        }
+        if reqtype != RELINQUISH {
+            listed.insert((SELLER_STATUS, Moved::Annulled, reqtype));
+        }
+    }
+    for reqtype in [PART_TRANSFER, FULL_TRANSFER] {
+        listed.insert((APPROVE, Moved::Confirmed, reqtype));
+    }
+    listed
 }
 
 pub fn listed_moves() -> BTreeSet<(u32, u32, u32)> {
@@ -226,13 +277,14 @@ mod tests {
 
     #[test]
     fn the_tables_hold_what_the_paper_lists() {
-        assert_eq!(listed_pairs().len(), 64);
+        assert_eq!(listed_pairs().len(), 73 + 9 + 3);
         // Kinds 2 and 3 move as the paper's two lists say.
         let of = |kind| listed_moves().iter().filter(|mv| mv.0 == kind).count();
         assert_eq!(of(SELLER_STATUS), 1 + 2 + 3 + 4 + 4 + 8 + 6 + 6 + 4 + 4 + 4 + 1 + 1 + 8);
         assert_eq!(of(CUSTOMER_STATUS), 2 + 4 + 8);
         assert_eq!(of(APPROVE), 8 + 1);
         assert_eq!(listed_effects().len(), 3 * 9 + 2 + 7 + 7 + 2 + 5 * 2);
+        assert_eq!(listed_over_posting().len(), 3 * 8 + 7 + 2);
     }
 
     #[test]
@@ -243,12 +295,16 @@ mod tests {
         reached.pairs = once();
         reached.moves = listed_moves();
         reached.effects = listed_effects();
+        reached.over_posting = listed_over_posting();
         reached.calls = listed_calls();
         assert_eq!(reached.check(), Ok(()));
-        reached.pairs.remove(&(LAPSE, NOT_APPROVED, false));
-        assert!(reached.check().unwrap_err().contains("(6, 13, false)"));
+        reached.pairs.remove(&(LAPSE, NOT_APPROVED, Of::Plain));
+        assert!(reached.check().unwrap_err().contains("(6, 13, Plain)"));
         reached.pairs = once();
-        reached.pairs.insert((SELLER_STATUS, NOT_APPROVED, false), 1);
-        assert!(reached.check().unwrap_err().contains("(2, 13, false)"));
+        reached.pairs.insert((SELLER_STATUS, NOT_APPROVED, Of::Plain), 1);
+        assert!(reached.check().unwrap_err().contains("(2, 13, Plain)"));
+        reached.pairs = once();
+        reached.over_posting.remove(&(APPROVE, Moved::Confirmed, FULL_TRANSFER));
+        assert!(reached.check().unwrap_err().contains("(4, Confirmed, 7)"));
     }
 }

@@ -5,13 +5,14 @@ use crate::converted::{action_to_library, answer_to_library, answer_to_model};
 use luddrisa_model as model;
 pub use luddrisa_model::{Action, Answer};
 
-/// The calls of document 01 over slices, with their numbers.
+/// The calls over slices, with their numbers.
 pub trait Rules {
     /// Numbers are rows, hours, provider, window, base.
     fn create(&self, ledger: &mut [u32], numbers: [u32; 5]) -> u32;
     fn batch(
         &self,
         ledger: &mut [u32],
+        postings: &mut [u32],
         words: &[u32],
         actions: &[Action],
         answers: &mut [Answer],
@@ -33,11 +34,12 @@ impl Rules for Model {
     fn batch(
         &self,
         ledger: &mut [u32],
+        postings: &mut [u32],
         words: &[u32],
         actions: &[Action],
         answers: &mut [Answer],
     ) -> u32 {
-        model::batch(ledger, words, actions, answers)
+        model::batch(ledger, postings, words, actions, answers)
     }
 
     fn charge(&self, ledger: &[u32], reference: u32) -> (u32, u64) {
@@ -80,13 +82,14 @@ impl Rules for Library {
     fn batch(
         &self,
         ledger: &mut [u32],
+        postings: &mut [u32],
         words: &[u32],
         actions: &[Action],
         answers: &mut [Answer],
     ) -> u32 {
         let actions: Vec<_> = actions.iter().map(action_to_library).collect();
         let mut places: Vec<_> = answers.iter().map(answer_to_library).collect();
-        let number = luddrisa::calls::batch(ledger, words, &actions, &mut places);
+        let number = luddrisa::calls::batch(ledger, postings, words, &actions, &mut places);
         for (answer, place) in answers.iter_mut().zip(&places) {
             *answer = answer_to_model(place);
         }

@@ -1,6 +1,6 @@
 //! One run of the tests: the subject and the model side by side.
 
-use luddrisa_model::{sound, HOURS, USED};
+use luddrisa_model::{ledger_words, posting_words, postings_fit, sound, HOURS, USED};
 
 use crate::reached::Reached;
 use crate::rules::{Action, Answer, Model, Rules};
@@ -15,7 +15,7 @@ const GUARD_WORD: u32 = 0xa5a5_5a5a;
 pub const UNWRITTEN: Answer =
     Answer { number: 901, reference: 902, before: 903, after: 904, moved: 905 };
 
-/// The same ledger twice: the model's, and the subject's between guard words.
+/// The same words twice: the model's, and the subject's between guard words.
 #[derive(Clone)]
 pub struct Twice {
     model: Vec<u32>,
@@ -50,22 +50,68 @@ impl Twice {
         self.subject_mut()[at] = word;
     }
 
-    fn compare(&self, what: impl Fn() -> String) -> Result<(), Difference> {
+    fn compare(&self, name: &str, what: impl Fn() -> String) -> Result<(), Difference> {
         let (front, rest) = self.subject.split_at(GUARD);
         let (subject, back) = rest.split_at(rest.len() - GUARD);
         if front.iter().chain(back).any(|&word| word != GUARD_WORD) {
-            return Err(format!("{}: a word outside the ledger was written", what()));
+            return Err(format!("{}: a word outside the {name} was written", what()));
         }
         if subject != self.model {
             let at = (0..self.model.len()).find(|&at| subject[at] != self.model[at]).unwrap();
             return Err(format!(
-                "{}: word {at} is {}, by the model {}",
+                "{}: word {at} of the {name} is {}, by the model {}",
                 what(),
                 subject[at],
                 self.model[at]
             ));
         }
         Ok(())
+    }
+}
+
+/// A ledger and its postings.
+#[derive(Clone)]
+pub struct Desk {
+    pub ledger: Twice,
+    pub postings: Twice,
+}
+
+impl Desk {
+    pub fn new(ledger: &[u32], postings: &[u32]) -> Desk {
+        Desk { ledger: Twice::new(ledger), postings: Twice::new(postings) }
+    }
+
+    pub fn ledger(&self) -> &[u32] {
+        self.ledger.words()
+    }
+
+    pub fn postings(&self) -> &[u32] {
+        self.postings.words()
+    }
+
+    /// True where both are sound.
+    pub fn is_sound(&self) -> bool {
+        sound(self.ledger()) && postings_fit(self.postings(), self.ledger()[HOURS])
+    }
+
+    fn batch_by_model(&mut self, words: &[u32], actions: &[Action], answers: &mut [Answer]) -> u32 {
+        Model.batch(&mut self.ledger.model, &mut self.postings.model, words, actions, answers)
+    }
+
+    fn batch_by(
+        &mut self,
+        subject: &dyn Rules,
+        words: &[u32],
+        actions: &[Action],
+        answers: &mut [Answer],
+    ) -> u32 {
+        let Desk { ledger, postings } = self;
+        subject.batch(ledger.subject_mut(), postings.subject_mut(), words, actions, answers)
+    }
+
+    fn compare(&self, what: impl Fn() -> String) -> Result<(), Difference> {
+        self.ledger.compare("ledger", &what)?;
+        self.postings.compare("postings", &what)
     }
 }
 
@@ -95,31 +141,31 @@ impl<'a> Run<'a> {
         if ours != theirs {
             return Err(format!("{}: {theirs}, by the model {ours}", what()));
         }
-        ledger.compare(what)?;
+        ledger.compare("ledger", what)?;
         self.reached.note_call("create", ours);
         Ok((ours, ledger))
     }
 
-    /// A fresh ledger; the numbers must be good.
-    pub fn fresh(&mut self, numbers: [u32; 5]) -> Result<Twice, Difference> {
-        let old = vec![7; luddrisa_model::ledger_words(numbers[0], numbers[1])];
+    /// A fresh ledger with nothing posted; the numbers must be good.
+    pub fn fresh(&mut self, numbers: [u32; 5]) -> Result<Desk, Difference> {
+        let old = vec![7; ledger_words(numbers[0], numbers[1])];
         let (number, ledger) = self.create(&old, numbers)?;
         assert_eq!(number, 0, "numbers of a fresh ledger");
-        Ok(ledger)
+        Ok(Desk { ledger, postings: Twice::new(&vec![0; posting_words(numbers[1])]) })
     }
 
     /// One action by itself.
     pub fn act(
         &mut self,
-        ledger: &mut Twice,
+        desk: &mut Desk,
         words: &[u32],
         action: &Action,
     ) -> Result<Answer, Difference> {
         let mut ours = [UNWRITTEN];
         let mut theirs = [UNWRITTEN];
         let one = std::slice::from_ref(action);
-        let ours_gave = Model.batch(&mut ledger.model, words, one, &mut ours);
-        let theirs_gave = self.subject.batch(ledger.subject_mut(), words, one, &mut theirs);
+        let ours_gave = desk.batch_by_model(words, one, &mut ours);
+        let theirs_gave = desk.batch_by(self.subject, words, one, &mut theirs);
         self.actions += 1;
         if (ours, ours_gave) != (theirs, theirs_gave) {
             return Err(format!(
@@ -127,27 +173,27 @@ impl<'a> Run<'a> {
                 theirs[0], ours[0]
             ));
         }
-        ledger.compare(|| format!("{action:?} answered {:?}", ours[0]))?;
+        desk.compare(|| format!("{action:?} answered {:?}", ours[0]))?;
         // The model looks at soundness once in a batch, for no action ends it.
-        if ours[0].number == 0 && !sound(ledger.words()) {
-            return Err(format!("{action:?} left an unsound ledger"));
+        if ours[0].number == 0 && !desk.is_sound() {
+            return Err(format!("{action:?} left an unsound ledger or postings"));
         }
-        self.reached.note(ledger.words(), action, &ours[0]);
+        self.reached.note(desk.ledger(), desk.postings(), action, &ours[0]);
         Ok(ours[0])
     }
 
     /// A list handed over together, with so many answer places.
     pub fn batch(
         &mut self,
-        ledger: &mut Twice,
+        desk: &mut Desk,
         words: &[u32],
         actions: &[Action],
         places: usize,
     ) -> Result<(u32, Vec<Answer>), Difference> {
         let mut ours = vec![UNWRITTEN; places];
         let mut theirs = vec![UNWRITTEN; places];
-        let ours_gave = Model.batch(&mut ledger.model, words, actions, &mut ours);
-        let theirs_gave = self.subject.batch(ledger.subject_mut(), words, actions, &mut theirs);
+        let ours_gave = desk.batch_by_model(words, actions, &mut ours);
+        let theirs_gave = desk.batch_by(self.subject, words, actions, &mut theirs);
         self.actions += actions.len() as u64;
         let what = || format!("batch of {} with {places} places", actions.len());
         if ours_gave != theirs_gave {
@@ -161,7 +207,7 @@ impl<'a> Run<'a> {
                 ours[at]
             ));
         }
-        ledger.compare(what)?;
+        desk.compare(what)?;
         self.reached.note_call("batch", ours_gave);
         Ok((ours_gave, ours))
     }
@@ -186,11 +232,12 @@ impl<'a> Run<'a> {
                 self.subject.profile_in_force(ledger.subject(), reference, &mut theirs);
             if (&ours, ours_gave) != (&theirs, theirs_gave) {
                 return Err(format!(
-                    "profile in force of {reference} into {places} places: {theirs_gave} {theirs:?}, by the model {ours_gave} {ours:?}"
+                    "profile in force of {reference} into {places} places: \
+                     {theirs_gave} {theirs:?}, by the model {ours_gave} {ours:?}"
                 ));
             }
         }
-        ledger.compare(|| format!("reading out {reference}"))
+        ledger.compare("ledger", || format!("reading out {reference}"))
     }
 
     /// Every reference of a ledger, and those just outside.

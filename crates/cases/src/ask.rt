@@ -4,6 +4,7 @@ use ledger::numbering::APPROVE;
 use ledger::numbering::CLOCK;
 use ledger::numbering::CUSTOMER_STATUS;
 use ledger::numbering::LAPSE;
+use ledger::numbering::POST;
 use ledger::numbering::REDUCE;
 use ledger::numbering::SELLER_STATUS;
 use ledger::numbering::SUBMIT;
@@ -11,7 +12,12 @@ use rules::Action;
 
 const WILD: u32 = 4294967295;
 
+// The path where a line names none.
+const PATH_UNNAMED: u32 = 1;
+
 const ACTION_FIELDS: usize = 14;
+
+const SUBMIT_FIELDS: usize = 8;
 
 pub enum Asked {
     Action(Action),
@@ -34,6 +40,7 @@ fn wild(kind: u32, actor: u32) -> Action {
         time: WILD,
         offset: WILD,
         length: WILD,
+        path: WILD,
     }
 }
 
@@ -47,9 +54,20 @@ fn with_profile(a: Action, length: u32) -> Action {
     p
 }
 
-// All fourteen fields, in order.
+// The path, where it stands after so many fields.
+fn path_after(f: &[u32], count: usize) -> u32 {
+    if count < f.len() {
+        return f[count];
+    }
+    PATH_UNNAMED
+}
+
+// The first fourteen fields, in order, and the path, where it comes.
 fn whole_action(f: &[u32]) -> Asked {
-    if f.len() != ACTION_FIELDS {
+    if f.len() < ACTION_FIELDS {
+        return Asked::Nothing;
+    }
+    if ACTION_FIELDS + 1 < f.len() {
         return Asked::Nothing;
     }
     Asked::Action(Action {
@@ -67,12 +85,16 @@ fn whole_action(f: &[u32]) -> Asked {
         time: f[11],
         offset: f[12],
         length: f[13],
+        path: path_after(f, ACTION_FIELDS),
     })
 }
 
-// actor, type, seller, related, start, stop, flags, price
+// actor, type, seller, related, start, stop, flags, price, and the path, where it comes
 fn submit(f: &[u32], length: u32) -> Asked {
-    if f.len() != 8 {
+    if f.len() < SUBMIT_FIELDS {
+        return Asked::Nothing;
+    }
+    if SUBMIT_FIELDS + 1 < f.len() {
         return Asked::Nothing;
     }
     let mut a = with_profile(wild(SUBMIT, f[0]), length);
@@ -83,6 +105,7 @@ fn submit(f: &[u32], length: u32) -> Asked {
     a.stop = f[5];
     a.flags = f[6];
     a.price = f[7];
+    a.path = path_after(f, SUBMIT_FIELDS);
     Asked::Action(a)
 }
 
@@ -118,6 +141,18 @@ fn clock(f: &[u32]) -> Asked {
     Asked::Action(a)
 }
 
+// actor, path, start, stop
+fn post(f: &[u32], length: u32) -> Asked {
+    if f.len() != 4 {
+        return Asked::Nothing;
+    }
+    let mut a = with_profile(wild(POST, f[0]), length);
+    a.path = f[1];
+    a.start = f[2];
+    a.stop = f[3];
+    Asked::Action(a)
+}
+
 // The action of a line, with the length of its profile.
 pub fn action_asked(verb: &[u8], f: &[u32], length: u32) -> Asked {
     if same(verb, b"submit") {
@@ -140,6 +175,9 @@ pub fn action_asked(verb: &[u8], f: &[u32], length: u32) -> Asked {
     }
     if same(verb, b"clock") {
         return clock(f);
+    }
+    if same(verb, b"post") {
+        return post(f, length);
     }
     if same(verb, b"action") {
         return whole_action(f);

@@ -1,4 +1,4 @@
-// Words of the ledger that a line names.
+// Words of the ledger, or of the postings, that a line names.
 ghost use Prim.Native.Nat.{_<_, _≤_};
 ghost use Rattle.rules.specs.Numbers.{mostHours, profiles};
 use check::same;
@@ -22,7 +22,7 @@ fn part_at(from: usize, count: usize) -> Part
 }
 
 // The hours of a profile; no more than a ledger may have.
-fn hours_of(l: &[u32]) -> usize
+pub fn hours_of(l: &[u32]) -> usize
     ensures { λ r. ⌜ r ≤ mostHours ⌝ }
 {
     if l.len() < HEAD_WORDS {
@@ -59,13 +59,12 @@ fn profile(hours: usize, p: usize) -> Part
     part_at(layout::rows::hours_at(hours, p, 0, hours), hours)
 }
 
-// The words of a row that a verb names: the words in use, one of them, or a profile.
-fn part_of_row(verb: &[u8], hours: usize) -> Part
-    requires { ⌜ hours ≤ mostHours ⌝ }
+// The words of a row before its profiles that a verb names: those before its path, one of them, or the path.
+fn words_of_row(verb: &[u8]) -> Part
     ensures { λ r. ⌜ r .from ≤ 4294967296 ⌝ }
 {
     if same(verb, b"row") {
-        return part_at(REQTYPE, USED_WORDS);
+        return part_at(REQTYPE, PATH);
     }
     if same(verb, b"status") {
         return part_at(STATUS, 1);
@@ -79,6 +78,17 @@ fn part_of_row(verb: &[u8], hours: usize) -> Part
     if same(verb, b"limit") {
         return part_at(LIMIT, 1);
     }
+    if same(verb, b"path") {
+        return part_at(PATH, 1);
+    }
+    part_at(NOWHERE, 0)
+}
+
+// The words of a row that a verb names: a profile, or some before them.
+fn part_of_row(verb: &[u8], hours: usize) -> Part
+    requires { ⌜ hours ≤ mostHours ⌝ }
+    ensures { λ r. ⌜ r .from ≤ 4294967296 ⌝ }
+{
     if same(verb, b"requested") {
         return profile(hours, REQUESTED_PART);
     }
@@ -91,7 +101,7 @@ fn part_of_row(verb: &[u8], hours: usize) -> Part
     if same(verb, b"displaced") {
         return profile(hours, DISPLACED_PART);
     }
-    part_at(NOWHERE, 0)
+    words_of_row(verb)
 }
 
 // The words that a verb names with a reference; `head` stands alone.
@@ -127,4 +137,29 @@ pub fn place(word: u32) -> usize
 // Word k of the row of a reference.
 pub fn word_of_row(l: &[u32], reference: u32, k: u32) -> usize {
     row_start(hours_of(l), reference) + place(k)
+}
+
+// Where the postings of a path start.
+pub fn posting_start(hours: usize, path: u32) -> usize
+    requires { ⌜ hours ≤ mostHours ⌝ }
+    ensures { λ r. ⌜ r ≤ 4294967296 ⌝ }
+{
+    if MOST_PATH < path {
+        return NOWHERE;
+    }
+    if path == 0 {
+        return NOWHERE;
+    }
+    (path as usize - 1) * hours
+}
+
+// Where an hour of a path stands in the postings.
+pub fn posting_at(hours: usize, path: u32, hour: u32) -> usize
+    requires { ⌜ hours ≤ mostHours ⌝ }
+{
+    let h = place(hour);
+    if hours <= h {
+        return NOWHERE;
+    }
+    posting_start(hours, path) + h
 }

@@ -9,17 +9,22 @@ mod text;
 use check::same;
 use libc::STDIN_FILENO;
 use perform::Ran;
+use text::Line;
 use text::MOST_NUMBERS;
 use text::listed;
 
-// The longest script, and the longest ledger.
+// The longest script, the longest ledger, and the longest postings.
 const SCRIPT_BYTES: usize = 262144;
 
 const LEDGER_WORDS: usize = 24576;
 
-// The words lent as the ledger, where the name of the case stands in the script, and the counts so far.
+const POSTINGS_WORDS: usize = 49152;
+
+// How many words are lent as the ledger and as the postings, where the name of the case stands in the script, and the
+// counts so far.
 struct Run {
     room: usize,
+    lent: usize,
     name_from: usize,
     name_to: usize,
     cases: u32,
@@ -35,6 +40,7 @@ impl Run {
     fn new() -> Run {
         Run {
             room: 0,
+            lent: 0,
             name_from: 0,
             name_to: 0,
             cases: 0,
@@ -52,6 +58,11 @@ impl Run {
 
     fn with_room(mut self, room: usize) -> Run {
         self.room = room;
+        self
+    }
+
+    fn with_postings(mut self, lent: usize) -> Run {
+        self.lent = lent;
         self
     }
 
@@ -117,25 +128,39 @@ fn judge(
             run.with_action(),
             name,
             line,
-            b"  refused, and a word was altered\n",
+            b"  altered a word that must stay\n",
         ),
         Ran::Unreadable => fail(run, name, line, b"  cannot be read\n"),
     }
 }
 
-// A line that is carried out.
-fn run_line(run: Run, name: &[u8], line: &[u8], l: &mut [u32], before: &mut [u32]) -> Run {
-    let read = text::read_line(line);
-    if !read.good {
+// How many words are lent as the postings from here on, and what each of them is.
+fn lend_postings(run: Run, name: &[u8], line: &[u8], read: Line, postings: &mut [u32]) -> Run {
+    let fields = read.fields;
+    let expected = read.expected;
+    if (fields.count != 2) | (expected.count != 0) {
         return fail(run, name, line, b"  cannot be read\n");
     }
-    let room = run.room;
-    if l.len() < room {
-        return fail(run, name, line, b"  longer than any ledger here\n");
+    let f = fields.list;
+    let lent = look::place(f[0]);
+    if postings.len() < lent {
+        return fail(run, name, line, b"  longer than any postings here\n");
     }
-    if before.len() < room {
-        return fail(run, name, line, b"  longer than any ledger here\n");
-    }
+    perform::fill(&mut postings[0..lent], f[1]);
+    run.with_postings(lent)
+}
+
+// A line on the words that are lent.
+fn run_lent(
+    run: Run,
+    name: &[u8],
+    line: &[u8],
+    read: Line,
+    l: &mut [u32],
+    before: &mut [u32],
+    postings: &mut [u32],
+    posted_before: &mut [u32],
+) -> Run {
     let verb = text::before(line, b' ');
     let fields = read.fields;
     let profile = read.profile;
@@ -144,14 +169,59 @@ fn run_line(run: Run, name: &[u8], line: &[u8], l: &mut [u32], before: &mut [u32
         verb,
         fields,
         profile,
-        &mut l[0..room],
-        &mut before[0..room],
+        l,
+        before,
+        postings,
+        posted_before,
         &mut got,
     );
     let expected = read.expected;
     let list = expected.list;
     let count = expected.count;
     judge(run, name, line, listed(&list, count), &got, ran)
+}
+
+// A line that is carried out.
+fn run_line(
+    run: Run,
+    name: &[u8],
+    line: &[u8],
+    l: &mut [u32],
+    before: &mut [u32],
+    postings: &mut [u32],
+    posted_before: &mut [u32],
+) -> Run {
+    let read = text::read_line(line);
+    if !read.good {
+        return fail(run, name, line, b"  cannot be read\n");
+    }
+    if same(text::before(line, b' '), b"postings") {
+        return lend_postings(run, name, line, read, postings);
+    }
+    let room = run.room;
+    let lent = run.lent;
+    if l.len() < room {
+        return fail(run, name, line, b"  longer than any ledger here\n");
+    }
+    if before.len() < room {
+        return fail(run, name, line, b"  longer than any ledger here\n");
+    }
+    if postings.len() < lent {
+        return fail(run, name, line, b"  longer than any postings here\n");
+    }
+    if posted_before.len() < lent {
+        return fail(run, name, line, b"  longer than any postings here\n");
+    }
+    run_lent(
+        run,
+        name,
+        line,
+        read,
+        &mut l[0..room],
+        &mut before[0..room],
+        &mut postings[0..lent],
+        &mut posted_before[0..lent],
+    )
 }
 
 // A line of the script, from one place to another: a comment, the name of a case, or one that is carried out.
@@ -162,6 +232,8 @@ fn run_part(
     to: usize,
     l: &mut [u32],
     before: &mut [u32],
+    postings: &mut [u32],
+    posted_before: &mut [u32],
 ) -> Run {
     let line = part(script, from, to);
     if line.len() == 0 {
@@ -175,15 +247,22 @@ fn run_part(
     }
     let name_from = run.name_from;
     let name_to = run.name_to;
-    run_line(run, part(script, name_from, name_to), line, l, before)
+    let name = part(script, name_from, name_to);
+    run_line(run, name, line, l, before, postings, posted_before)
 }
 
-fn run_script(script: &[u8], l: &mut [u32], before: &mut [u32]) -> Run {
+fn run_script(
+    script: &[u8],
+    l: &mut [u32],
+    before: &mut [u32],
+    postings: &mut [u32],
+    posted_before: &mut [u32],
+) -> Run {
     let mut run = Run::new();
     let mut at = 0;
     while at < script.len() {
         let end = at + text::find(&script[at..], b'\n');
-        run = run_part(run, script, at, end, l, before);
+        run = run_part(run, script, at, end, l, before, postings, posted_before);
         at = end + 1;
     }
     run
@@ -194,7 +273,15 @@ fn main() {
     let bytes = io::read_full(STDIN_FILENO, &mut script);
     let mut ledger = [0u32; LEDGER_WORDS];
     let mut before = [0u32; LEDGER_WORDS];
-    let mut run = run_script(&script[..bytes], &mut ledger, &mut before);
+    let mut postings = [0u32; POSTINGS_WORDS];
+    let mut posted_before = [0u32; POSTINGS_WORDS];
+    let mut run = run_script(
+        &script[..bytes],
+        &mut ledger,
+        &mut before,
+        &mut postings,
+        &mut posted_before,
+    );
     if bytes == SCRIPT_BYTES {
         run = fail(run, b"", b"", b"  the script is too long\n");
     }

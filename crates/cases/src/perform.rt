@@ -1,4 +1,6 @@
 // A line with its numbers carried out: what it gives is put at the front of `got`.
+ghost use Prim.Native.Nat.{_≤_};
+ghost use Rattle.rules.specs.Numbers.{mostHours};
 use crate::ask;
 use crate::ask::Asked;
 use crate::look;
@@ -6,9 +8,12 @@ use crate::text::MOST_NUMBERS;
 use crate::text::Numbers;
 use crate::text::listed;
 use check::same;
+use ledger::numbering::POST;
 use rules::Action;
+use rules::Answer;
 
-// How many numbers came; the same from an action; a length for the ledger; refused, and yet some word was altered; no such line.
+// How many numbers came; the same from an action; a length for the ledger; a word was altered that must stay; no such
+// line.
 pub enum Ran {
     Numbers(usize),
     Acted(usize),
@@ -55,6 +60,13 @@ pub fn same_words(a: &[u32], b: &[u32]) -> bool {
     differing(a, b) == 0
 }
 
+// Every word becomes the same.
+pub fn fill(words: &mut [u32], word: u32) {
+    for k in 0..words.len() {
+        words[k] = word;
+    }
+}
+
 fn one(got: &mut [u32; MOST_NUMBERS], number: u32) -> Ran {
     got[0] = number;
     Ran::Numbers(1)
@@ -70,7 +82,7 @@ fn show(got: &mut [u32], ws: &[u32]) -> Ran {
     Ran::Numbers(count)
 }
 
-// A part of the ledger.
+// A part of the ledger or of the postings.
 fn show_part(l: &[u32], from: usize, count: usize, got: &mut [u32; MOST_NUMBERS]) -> Ran {
     if l.len() < from {
         return Ran::Unreadable;
@@ -97,28 +109,65 @@ fn create(l: &mut [u32], before: &mut [u32], f: &[u32], got: &mut [u32; MOST_NUM
     one(got, number)
 }
 
-// An action. A refusal must alter nothing.
-fn act(
-    l: &mut [u32],
-    before: &mut [u32],
-    profile: &[u32],
-    a: Action,
-    got: &mut [u32; MOST_NUMBERS],
-) -> Ran {
-    if before.len() != l.len() {
-        return Ran::Unreadable;
+// A copy of the words, made where they have place.
+fn copied(before: &mut [u32], words: &[u32]) -> bool {
+    if before.len() != words.len() {
+        return false;
     }
-    words::copy(before, l);
-    let r = ledger::act(l, profile, a);
-    if (r.number != 0) & !same_words(l, before) {
-        return Ran::Altered;
-    }
+    words::copy(before, words);
+    true
+}
+
+// The numbers of an answer.
+fn show_answer(r: Answer, got: &mut [u32; MOST_NUMBERS]) -> Ran {
     got[0] = r.number;
     got[1] = r.reference;
     got[2] = r.before;
     got[3] = r.after;
     got[4] = r.moved;
     Ran::Acted(ANSWER)
+}
+
+// Words that may have been written, or are as they were.
+fn kept(may_write: bool, words: &[u32], before: &[u32]) -> bool {
+    if may_write {
+        return true;
+    }
+    same_words(words, before)
+}
+
+// A refusal must alter nothing, a posting no word of the ledger, and any other action no posting.
+fn stays(
+    kind: u32,
+    number: u32,
+    l: &[u32],
+    before: &[u32],
+    postings: &[u32],
+    posted_before: &[u32],
+) -> bool {
+    let accepted = number == 0;
+    let posts = kind == POST;
+    kept(accepted & !posts, l, before) & kept(accepted & posts, postings, posted_before)
+}
+
+// An action, and what must stay compared with the copies.
+fn act(
+    l: &mut [u32],
+    before: &mut [u32],
+    postings: &mut [u32],
+    posted_before: &mut [u32],
+    profile: &[u32],
+    a: Action,
+    got: &mut [u32; MOST_NUMBERS],
+) -> Ran {
+    if !copied(before, l) | !copied(posted_before, postings) {
+        return Ran::Unreadable;
+    }
+    let r = ledger::act(l, postings, profile, a);
+    if stays(a.kind, r.number, l, before, postings, posted_before) {
+        return show_answer(r, got);
+    }
+    Ran::Altered
 }
 
 // The number of the charge of a row, its millions of cents and the cents beyond them.
@@ -141,12 +190,12 @@ fn profile(l: &[u32], f: &[u32], got: &mut [u32; MOST_NUMBERS]) -> Ran {
     show(got, readout::profile_in_force(l, f[0]))
 }
 
-// A word of the ledger overwritten.
-fn spoil(l: &mut [u32], at: usize, value: u32) -> Ran {
-    if l.len() <= at {
+// A word of the ledger, or of the postings, overwritten.
+fn spoil(words: &mut [u32], at: usize, value: u32) -> Ran {
+    if words.len() <= at {
         return Ran::Unreadable;
     }
-    l[at] = value;
+    words[at] = value;
     Ran::Numbers(0)
 }
 
@@ -168,6 +217,27 @@ fn spoil_row(l: &mut [u32], f: &[u32]) -> Ran {
     spoil(l, at, f[2])
 }
 
+// path, hour, word
+fn spoil_posting(postings: &mut [u32], hours: usize, f: &[u32]) -> Ran
+    requires { ⌜ hours ≤ mostHours ⌝ }
+{
+    if f.len() != 3 {
+        return Ran::Unreadable;
+    }
+    let at = look::posting_at(hours, f[0], f[1]);
+    spoil(postings, at, f[2])
+}
+
+// The postings of a path.
+fn show_posted(postings: &[u32], hours: usize, f: &[u32], got: &mut [u32; MOST_NUMBERS]) -> Ran
+    requires { ⌜ hours ≤ mostHours ⌝ }
+{
+    if f.len() != 1 {
+        return Ran::Unreadable;
+    }
+    show_part(postings, look::posting_start(hours, f[0]), hours, got)
+}
+
 // The words that the verb names.
 fn words_named(verb: &[u8], f: &[u32], l: &[u32], got: &mut [u32; MOST_NUMBERS]) -> Ran {
     let p = look::part_named(l, verb, f);
@@ -184,8 +254,29 @@ fn room(f: &[u32]) -> Ran {
     Ran::Room(look::place(f[0]))
 }
 
-// The lines that are no action.
+// The lines about postings that are no action; then those about the ledger.
 fn other(
+    verb: &[u8],
+    f: &[u32],
+    l: &mut [u32],
+    before: &mut [u32],
+    postings: &mut [u32],
+    posted_before: &mut [u32],
+    got: &mut [u32; MOST_NUMBERS],
+) -> Ran {
+    if same(verb, b"spoil-posting") {
+        return spoil_posting(postings, look::hours_of(&l[..]), f);
+    }
+    if same(verb, b"posted") {
+        return show_posted(&postings[..], look::hours_of(&l[..]), f, got);
+    }
+    if same(verb, b"altered-postings") {
+        return one(got, differing(&postings[..], &posted_before[..]));
+    }
+    of_ledger(verb, f, l, before, got)
+}
+
+fn of_ledger(
     verb: &[u8],
     f: &[u32],
     l: &mut [u32],
@@ -222,16 +313,18 @@ fn perform_listed(
     profile: &[u32],
     l: &mut [u32],
     before: &mut [u32],
+    postings: &mut [u32],
+    posted_before: &mut [u32],
     got: &mut [u32; MOST_NUMBERS],
 ) -> Ran {
     let asked = ask::action_asked(verb, f, word_of(profile.len() as u64));
     match asked {
-        Asked::Action(a) => act(l, before, profile, a, got),
+        Asked::Action(a) => act(l, before, postings, posted_before, profile, a, got),
         Asked::Nothing => {
             if profile.len() != 0 {
                 return Ran::Unreadable;
             }
-            other(verb, f, l, before, got)
+            other(verb, f, l, before, postings, posted_before, got)
         }
     }
 }
@@ -242,6 +335,8 @@ pub fn perform(
     profile: Numbers,
     l: &mut [u32],
     before: &mut [u32],
+    postings: &mut [u32],
+    posted_before: &mut [u32],
     got: &mut [u32; MOST_NUMBERS],
 ) -> Ran {
     let f = fields.list;
@@ -254,6 +349,8 @@ pub fn perform(
         listed(&p, profile_count),
         l,
         before,
+        postings,
+        posted_before,
         got,
     )
 }

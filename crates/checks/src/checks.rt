@@ -1,18 +1,18 @@
 // Checks that several kinds of action share.
 ghost use mathlib.Core.Path.{_≡_};
-ghost use mathlib.Core.Bool.{_&&_, _||_, not};
-ghost use Prim.Native.Nat.{_<_, _≤_};
+ghost use mathlib.Core.Bool.{_&&_};
+ghost use Prim.Native.Nat.{_-_, _<_, _≤_};
 ghost use lib.ListN.{length};
-ghost use Rattle.words.specs.Lists.{within, zeros};
 ghost use Rattle.rules.specs.Pick.{_isFrom_to_};
-ghost use Rattle.rules.specs.Numbers.{headWords, mostMegawatts};
+ghost use Rattle.rules.specs.Numbers.{headWords};
 ghost use Rattle.rules.specs.Layout.{Sized, row, spanHours};
 ghost use Rattle.rules.specs.Moves.{isOpen};
-ghost use Rattle.rules.specs.Checks.{named as rowNamed, comes as profileComes, badProfile, badPrice, badStatus, noReference, notProvider, waitsAt};
+ghost use Rattle.rules.specs.Checks.{named as rowNamed, comes as profileComes, badWords, badProfile, badSpan, unknownPath, badPrice, badStatus, noReference, notProvider, waitsAt};
 use crate::moves::OPEN;
 use crate::moves::is_in;
 use layout::numbers::FLAGS;
 use layout::numbers::MOST_MEGAWATTS;
+use layout::numbers::MOST_PATH;
 use layout::numbers::MOST_PRICE;
 use layout::numbers::MOST_STATUS;
 use layout::numbers::PRECONFIRMED;
@@ -40,16 +40,9 @@ pub fn comes(a: Action) -> bool
     a.length != 0
 }
 
-// A word over 100,000, or all 0.
-fn bad_words(profile: &[u32]) -> bool
-    ensures { λ b. ⌜ b ≡ (not (within mostMegawatts (now (profile .entry))) || zeros (now (profile .entry))) ⌝ }
-{
-    !words::all_within(MOST_MEGAWATTS, profile) || words::all_zero(profile)
-}
-
-// 7: profile outside its slice, length not n, a word over 100,000, or all 0.
-pub fn bad_profile(words: &[u32], a: Action, n: usize) -> bool
-    ensures { λ b. ⌜ b ≡ badProfile (now (words .entry)) a n ⌝ }
+// 7: profile outside its slice, length not n, or a word over 100,000.
+pub fn bad_words(words: &[u32], a: Action, n: usize) -> bool
+    ensures { λ b. ⌜ b ≡ badWords (now (words .entry)) a n ⌝ }
 {
     let from = a.offset as usize;
     let count = a.length as usize;
@@ -59,7 +52,19 @@ pub fn bad_profile(words: &[u32], a: Action, n: usize) -> bool
     if count != n {
         return true;
     }
-    bad_words(&words[from..from + count])
+    !words::all_within(MOST_MEGAWATTS, &words[from..from + count])
+}
+
+// 7: such a profile, or all 0.
+pub fn bad_profile(words: &[u32], a: Action, n: usize) -> bool
+    ensures { λ b. ⌜ b ≡ badProfile (now (words .entry)) a n ⌝ }
+{
+    if bad_words(words, a, n) {
+        return true;
+    }
+    let from = a.offset as usize;
+    let count = a.length as usize;
+    words::all_zero(&words[from..from + count])
 }
 
 // 7, unless length 0.
@@ -67,6 +72,30 @@ pub fn bad_if_comes(words: &[u32], a: Action, n: usize) -> bool
     ensures { λ b. ⌜ b ≡ (profileComes a && badProfile (now (words .entry)) a n) ⌝ }
 {
     comes(a) && bad_profile(words, a, n)
+}
+
+// 6: not start < stop ≤ hours.
+pub fn bad_span(hours: usize, a: Action) -> bool
+    ensures { λ b. ⌜ b ≡ badSpan hours a ⌝ }
+{
+    !((a.start < a.stop) & (a.stop as usize <= hours))
+}
+
+// The hours that an action names, from start up to, not including, stop.
+pub fn span_asked(a: Action) -> usize
+    ensures { λ r. ⌜ r ≡ a .stop - a .start ⌝ }
+{
+    if a.stop < a.start {
+        return 0;
+    }
+    (a.stop - a.start) as usize
+}
+
+// 21: path not 1 to 64.
+pub fn unknown_path(a: Action) -> bool
+    ensures { λ b. ⌜ b ≡ unknownPath a ⌝ }
+{
+    !is_from(a.path, 1, MOST_PATH)
 }
 
 // 12: price too high.

@@ -9,13 +9,15 @@ use lib.Dec.{eqb}
 use lib.IntN.{ℤ, pos, _+ℤ_}
 use Rattle.column.specs.Sum.{gate, choose, sumTo}
 use Rattle.column.specs.Column.{Col, part, either, hit, On}
-use Rattle.column.specs.Step.{Fresh, Run, fresh, next}
+use Rattle.column.specs.Step.{Fresh, Run, fresh, next, post}
+use Rattle.column.specs.Use.{Within}
 use Rattle.column.specs.Demand.{Live, NotNegative, Whole, inside, gateℤ, sumℤ, Tree, Demand3}
 use Rattle.column.proofs.Sums.{eqb-other, gate-le, gate-swap, sum-ext, sum-le, sum-zero, sum-add}
 use Rattle.column.proofs.Fits.{Fit, off, gone, bent, held, fit-sum, fit-w-held, fit-r-off}
 use Rattle.column.proofs.Flow.{flow, into, all, of, into-zero, into-none, hit-other, Inv, Shape}
 use Rattle.column.proofs.Kept.{step-kept}
 use Rattle.column.proofs.Shapes.{step-shape, fresh-shape}
+use Rattle.column.proofs.Uses.{step-within, fresh-within, post-within}
 use Rattle.column.proofs.Trees.{tree-sum, inside-closed}
 
 on : {s : ℕ} → Live s → On s
@@ -181,10 +183,6 @@ unused-red {S} H I = I .red-is (S .used) ∙ ap pos (fit-r-off (I .fit (S .used)
 
 -- ---- lists of steps
 
-pub run-shape : {S : Col} → Run S → Shape S
-run-shape (fresh F) = fresh-shape F
-run-shape (next R s) = step-shape s (run-shape R)
-
 pub fresh-inv : {S : Col} → Fresh S → Inv S
 unfolding flow
 fresh-inv {S} F = record {
@@ -198,10 +196,22 @@ fresh-inv {S} F = record {
     none : (b : ℕ → Bool) (n : ℕ) → flow b S (λ n. 0) n ≡ 0
     none b n = sum-zero (S .used) _ (λ c l. into-zero b (S .ty c) (S .ref c) n)
 
-pub run-inv : {S : Col} → Run S → Inv S
+pub run-shape : {B : ℕ → ℕ} {S : Col} → Run B S → Shape S
+run-shape (fresh F) = fresh-shape F
+run-shape (next R s) = step-shape s (run-shape R)
+run-shape (post x R e u) = run-shape R
+
+pub run-inv : {B : ℕ → ℕ} {S : Col} → Run B S → Inv S
 run-inv (fresh F) = fresh-inv F
 run-inv (next R s) = step-kept s (run-shape R) (run-inv R)
+run-inv (post x R e u) = run-inv R
 
 -- DEMAND 3
-pub demand3 : {S : Col} → Run S → Demand3 S
+pub demand3 : {B : ℕ → ℕ} {S : Col} → Run B S → Demand3 S
 demand3 R = demand3-of (run-shape R) (run-inv R)
+
+-- PATH LIMITS
+pub path-limits : {B : ℕ → ℕ} {S : Col} → Run B S → Within B S
+path-limits (fresh F) = fresh-within F
+path-limits (next R s) = step-within s (run-shape R) (path-limits R)
+path-limits (post x R e u) = post-within x e u (path-limits R)

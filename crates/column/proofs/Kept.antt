@@ -87,7 +87,7 @@ give-kept {S} {S'} {c} {q} {p} G H I = record {
   w = w';
   r = I .r;
   fit = by-one (FitAt S' w' (I .r)) c
-      (fit-start8 (I .fit c) (G .before) (G .type) (G .keeps .ty c) (G .after) (G .a) (G .d) refl w-c (other c (omega (arith, low-q)) (omega (arith, low-q, low-p))))
+      (fit-start8 (I .fit c) (G .before) (G .type) (G .keeps .ty c) (G .after) (omega (arith, G .a)) (G .d) refl w-c (other c (omega (arith, low-q)) (omega (arith, low-q, low-p))))
       (λ n e. by-one (λ m. m ≢ c → FitAt S' w' (I .r) m) q
       (λ e'. fit-bend x (I .fit q) (G .q-before) bends (G .keeps .ty q) (G .q-after) (G .q-g) (G .q-a) (G .q-d) refl w-q at-q)
       (λ m eq ec. by-one (λ m. m ≢ c → m ≢ q → FitAt S' w' (I .r) m) p
@@ -290,14 +290,14 @@ submit-kept {S} {S'} N H I = record {
     drawn : (b : ℕ → Bool) (n : ℕ) → flow b S' (I .w) n ≡ flow b S (I .w) n
     drawn b n = flow-submit b N (I .w) n (fit-w-off (I .fit (S .used)) new)
 
-pub step-kept : {S S' : Col} → Step S S' → Shape S → Inv S → Inv S'
+pub step-kept : {B : ℕ → ℕ} {S S' : Col} → Step B S S' → Shape S → Inv S → Inv S'
 step-kept (same D) H I = same-kept D I
 step-kept (submit N) H I = submit-kept N H I
 step-kept (quiet c Q) H I = quiet-kept Q I
-step-kept (top c C) H I = top-kept C H I
-step-kept (child c p C) H I = child-kept C H I
-step-kept (give c q p G) H I = give-kept G H I
+step-kept (top c C T) H I = top-kept C H I
+step-kept (child c p C T) H I = child-kept C H I
+step-kept (give c q p G T) H I = give-kept G H I
 step-kept (annul-top c A) H I = annul-top-kept A H I
-step-kept (annul-child c p A) H I = annul-child-kept A H I
+step-kept (annul-child c p A T) H I = annul-child-kept A H I
 step-kept (displace c D) H I = displace-kept D I
 step-kept (reduce c x D) H I = reduce-kept D I

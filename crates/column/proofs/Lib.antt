@@ -4,5 +4,6 @@ pub mod Flow
 pub mod Shares
 pub mod Kept
 pub mod Shapes
+pub mod Uses
 pub mod Trees
 pub mod Final

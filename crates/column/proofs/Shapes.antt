@@ -49,15 +49,15 @@ more {S} {S'} N H = record {
 live : {S : Col} (c : ℕ) → S .st c ≡ 13 → Shape S → S .used ≤ c → ⊥
 live c e H l = omega (arith, H .fresh c l .0)
 
-pub step-shape : {S S' : Col} → Step S S' → Shape S → Shape S'
+pub step-shape : {B : ℕ → ℕ} {S S' : Col} → Step B S S' → Shape S → Shape S'
 step-shape (same D) H = keep (D .keeps) (λ n l. D .rest n .st) H
 step-shape (submit N) H = more N H
 step-shape (quiet c Q) H = keep (Q .keeps) (λ n l. Q .rest n (omega (arith, Q .in-use)) .st) H
-step-shape (top c C) H = keep (C .keeps) (λ n l. C .rest n (omega (arith, C .in-use)) .st) H
-step-shape (child c p C) H = keep (C .keeps) (λ n l. C .rest n (omega (arith, C .in-use)) (omega (arith, C .in-use, C .parent, H .lower c)) .st) H
-step-shape (give c q p G) H = keep (G .keeps) (λ n l. G .rest n (omega (arith, G .in-use)) (omega (arith, G .in-use, G .parent, H .lower c)) (omega (arith, G .in-use, G .parent, G .grand, H .lower c, H .lower q)) .st) H
+step-shape (top c C T) H = keep (C .keeps) (λ n l. C .rest n (omega (arith, C .in-use)) .st) H
+step-shape (child c p C T) H = keep (C .keeps) (λ n l. C .rest n (omega (arith, C .in-use)) (omega (arith, C .in-use, C .parent, H .lower c)) .st) H
+step-shape (give c q p G T) H = keep (G .keeps) (λ n l. G .rest n (omega (arith, G .in-use)) (omega (arith, G .in-use, G .parent, H .lower c)) (omega (arith, G .in-use, G .parent, G .grand, H .lower c, H .lower q)) .st) H
 step-shape (annul-top c A) H = keep (A .keeps) (λ n l. A .rest n (omega (arith, A .in-use)) .st) H
-step-shape (annul-child c p A) H = keep (A .keeps) (λ n l. A .rest n (omega (arith, A .in-use)) (omega (arith, A .in-use, A .parent, H .lower c)) .st) H
+step-shape (annul-child c p A T) H = keep (A .keeps) (λ n l. A .rest n (omega (arith, A .in-use)) (omega (arith, A .in-use, A .parent, H .lower c)) .st) H
 step-shape (displace c D) H = keep (D .keeps) (λ n l. D .rest n (λ e. live c (D .before) H (omega arith)) .st) H
 step-shape (reduce c x D) H = keep (D .keeps) (λ n l. D .rest n (λ e. live c (D .before) H (omega arith)) .st) H
 

@@ -111,6 +111,37 @@ sum-two m c q f h lc lq n e =
         go (yes p) = rw p (sym (upd-same f c (h c)))
         go (no p) = e i p k ∙ sym (upd-other f c (h c) i p)
 
+-- no term rises but two, which together do not
+pub sum-le-two : (m c q : ℕ) (f h : ℕ → ℕ) → c < m → q < m → c ≢ q → ((i : ℕ) → i ≢ c → i ≢ q → h i ≤ f i) → h c + h q ≤ f c + f q → sumTo m h ≤ sumTo m f
+sum-le-two m c q f h lc lq n e t =
+    omega (
+      arith,
+      sum-le m h g (λ i l. below i),
+      sum-two m c q f g lc lq n other,
+      at-c,
+      at-q,
+    )
+  where
+    g : ℕ → ℕ
+    g = upd (upd f c (h c)) q (h q)
+
+    at-q : g q ≡ h q
+    at-q = upd-same (upd f c (h c)) q (h q)
+
+    at-c : g c ≡ h c
+    at-c = upd-other (upd f c (h c)) q (h q) c n ∙ upd-same f c (h c)
+
+    other : (i : ℕ) → i ≢ c → i ≢ q → g i ≡ f i
+    other i x y = upd-other (upd f c (h c)) q (h q) i y ∙ upd-other f c (h c) i x
+
+    below : (i : ℕ) → h i ≤ g i
+    below i = go (ℕ-discrete i c) (ℕ-discrete i q)
+      where
+        go : Dec (i ≡ c) → Dec (i ≡ q) → h i ≤ g i
+        go (yes x) d = omega (arith, ap h x, ap g x, at-c)
+        go (no x) (yes y) = omega (arith, ap h y, ap g y, at-q)
+        go (no x) (no y) = omega (arith, other i x y, e i x y)
+
 -- a term is at most the sum: so a sum of 0 has only terms 0
 pub sum-term : (m c : ℕ) (f : ℕ → ℕ) → c < m → f c ≤ sumTo m f
 unfolding sumTo

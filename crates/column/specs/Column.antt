@@ -12,6 +12,7 @@ pub record Col : Type 0 where
   pub ty : ℕ → ℕ
   pub st : ℕ → ℕ
   pub ref : ℕ → ℕ
+  pub path : ℕ → ℕ
   pub g : ℕ → ℕ
   pub a : ℕ → ℕ
   pub d : ℕ → ℕ

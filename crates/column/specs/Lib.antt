@@ -1,4 +1,5 @@
 pub mod Sum
 pub mod Column
+pub mod Use
 pub mod Step
 pub mod Demand

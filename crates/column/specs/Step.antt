@@ -1,15 +1,18 @@
--- What an accepted action does to a column, as facts about the column before (S) and after (S').
+-- What an accepted action does to a column, as facts about the column before (S) and after (S'). B x is what is posted
+-- for path x.
 use mathlib.Core.Path.{_≡_}
 use mathlib.Core.Logic.{_≢_}
 use Prim.Native.Nat.{ℕ, zero, suc, _+_, _≤_, _<_}
 use lib.IntN.{ℤ, pos, negℤ, _+ℤ_}
 use Rattle.column.specs.Column.{Col, share, Off}
+use Rattle.column.specs.Use.{useOf, Tested}
 
--- rows, types and references stay
+-- rows, types, references and paths stay
 pub record Keeps (S S' : Col) : Type 0 where
   pub used : S' .used ≡ S .used
   pub ty : (n : ℕ) → S' .ty n ≡ S .ty n
   pub ref : (n : ℕ) → S' .ref n ≡ S .ref n
+  pub path : (n : ℕ) → S' .path n ≡ S .path n
 
 -- the row n stays
 pub record Still (S S' : Col) (n : ℕ) : Type 0 where
@@ -29,6 +32,7 @@ pub record Submit (S S' : Col) : Type 0 where
   pub used : S' .used ≡ suc (S .used)
   pub ty : (n : ℕ) → n ≢ S .used → S' .ty n ≡ S .ty n
   pub ref : (n : ℕ) → n ≢ S .used → S' .ref n ≡ S .ref n
+  pub path : (n : ℕ) → n ≢ S .used → S' .path n ≡ S .path n
   pub rest : (n : ℕ) → n ≢ S .used → Still S S' n
   pub st : Off (S' .st (S .used))
   pub a : S' .a (S .used) ≡ S .a (S .used)
@@ -93,7 +97,7 @@ pub record Give (S S' : Col) (c q p : ℕ) : Type 0 where
   pub type : S .ty c ≡ 8
   pub before : Off (S .st c)
   pub after : S' .st c ≡ 13
-  pub a : S' .a c ≤ S .a c
+  pub a : S' .a c ≡ 0
   pub d : S' .d c ≡ S .d c
   pub q-before : S .st q ≡ 13
   pub q-after : S' .st q ≡ 13
@@ -103,6 +107,7 @@ pub record Give (S S' : Col) (c q p : ℕ) : Type 0 where
   pub p-st : S' .st p ≡ S .st p
   pub p-g : S' .g p ≡ S .g p
   pub p-ad : S' .a p + S' .d p ≡ S .a p + S .d p + S' .g c
+  pub p-a : S .st p ≡ 13 → S' .a p ≡ S .a p + S' .g c
   pub rest : (n : ℕ) → n ≢ c → n ≢ q → n ≢ p → Still S S' n
   pub outs : (k n : ℕ) → S' .out k n ≡ S .out k n +ℤ pos (share k (S .ty c) (S .ref c) n (S' .g c)) +ℤ negℤ (pos (share k (S .ty q) (S .ref q) n (S' .g c)))
   pub reds : RedStays S S'
@@ -135,6 +140,7 @@ pub record AnnulChild (S S' : Col) (c p : ℕ) : Type 0 where
   pub p-st : S' .st p ≡ S .st p
   pub p-g : S' .g p ≡ S .g p
   pub p-ad : S' .a p + S' .d p ≡ S .a p + S .d p + S .g c
+  pub p-a : S .st p ≡ 13 → S' .a p ≡ S .a p + S .g c
   pub rest : (n : ℕ) → n ≢ c → n ≢ p → Still S S' n
   pub outs : (k n : ℕ) → S' .out k n ≡ S .out k n +ℤ negℤ (pos (share k (S .ty c) (S .ref c) n (S .g c)))
   pub reds : RedStays S S'
@@ -171,17 +177,17 @@ pub record Same (S S' : Col) : Type 0 where
   pub outs : OutStays S S'
   pub reds : RedStays S S'
 
-pub data Step (S S' : Col) : Type 0 where
-  same : Same S S' → Step S S'
-  submit : Submit S S' → Step S S'
-  quiet : (c : ℕ) → Quiet S S' c → Step S S'
-  top : (c : ℕ) → Top S S' c → Step S S'
-  child : (c p : ℕ) → Child S S' c p → Step S S'
-  give : (c q p : ℕ) → Give S S' c q p → Step S S'
-  annul-top : (c : ℕ) → AnnulTop S S' c → Step S S'
-  annul-child : (c p : ℕ) → AnnulChild S S' c p → Step S S'
-  displace : (c : ℕ) → Displace S S' c → Step S S'
-  reduce : (c x : ℕ) → Reduce S S' c x → Step S S'
+pub data Step (B : ℕ → ℕ) (S S' : Col) : Type 0 where
+  same : Same S S' → Step B S S'
+  submit : Submit S S' → Step B S S'
+  quiet : (c : ℕ) → Quiet S S' c → Step B S S'
+  top : (c : ℕ) → Top S S' c → Tested B S S' c → Step B S S'
+  child : (c p : ℕ) → Child S S' c p → Tested B S S' c → Step B S S'
+  give : (c q p : ℕ) → Give S S' c q p → Tested B S S' c → Step B S S'
+  annul-top : (c : ℕ) → AnnulTop S S' c → Step B S S'
+  annul-child : (c p : ℕ) → AnnulChild S S' c p → Tested B S S' c → Step B S S'
+  displace : (c : ℕ) → Displace S S' c → Step B S S'
+  reduce : (c x : ℕ) → Reduce S S' c x → Step B S S'
 
 -- a column with no rows
 pub record Fresh (S : Col) : Type 0 where
@@ -193,7 +199,8 @@ pub record Fresh (S : Col) : Type 0 where
   pub out : (k n : ℕ) → S .out k n ≡ pos 0
   pub red : (n : ℕ) → S .red n ≡ pos 0
 
--- what any list of steps from a column with no rows comes to
-pub data Run : Col → Type 0 where
-  fresh : {S : Col} → Fresh S → Run S
-  next : {S S' : Col} → Run S → Step S S' → Run S'
+-- what any list of steps and postings from a column with no rows comes to; a posting is for path x, and tested of it
+pub data Run : (ℕ → ℕ) → Col → Type 0 where
+  fresh : {B : ℕ → ℕ} {S : Col} → Fresh S → Run B S
+  next : {B : ℕ → ℕ} {S S' : Col} → Run B S → Step B S S' → Run B S'
+  post : {B B' : ℕ → ℕ} {S : Col} (x : ℕ) → Run B S → ((y : ℕ) → 1 ≤ y → y ≢ x → B' y ≡ B y) → useOf S x ≤ B' x → Run B' S

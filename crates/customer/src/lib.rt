@@ -1,6 +1,6 @@
 // 3 Customer status: its number, whether it would carry a word over 100,000, and what it writes.
 ghost use mathlib.Core.Path.{_≡_};
-ghost use mathlib.Core.Bool.{true, false};
+ghost use mathlib.Core.Bool.{true, false, _&&_};
 ghost use Prim.Native.Nat.{_<_, _≤_};
 ghost use lib.ListN.{length};
 ghost use Rattle.words.specs.Lists.{equal};
@@ -8,13 +8,15 @@ ghost use Rattle.rules.specs.Numbers.{rowWords, mostHours, mostPrice, approved}
 ghost use Rattle.rules.specs.Layout.{Sized, row, onRow, rowSize, spanHours, has, requested, setStatus};
 ghost use Rattle.rules.specs.Megawatts.{inForce, carriesOver};
 ghost use Rattle.rules.specs.Confirming.{confirm as confirmed, short, confirmNumber};
-ghost use Rattle.rules.specs.Checks.{namedRow, badIfComes};
+ghost use Rattle.rules.specs.Checks.{named as rowNamed, namedRow, badIfComes};
 ghost use Rattle.rules.specs.CustomerStatus.{notCustomer, noCustomerMove, bids, confirms, requestedAfter, unfitBid, bidConfirmNumber, bidNumber, customerNumber, bidden, customerAfter};
 ghost use Rattle.rules.proofs.SoundFacts.{SoundWords};
 ghost use Rattle.rules.proofs.Over.{overConfirming};
 ghost use Rattle.layout.specs.SoundAt.{SoundAt};
 ghost use Rattle.megawatts.specs.Placed.{Placed};
 ghost use Rattle.megawatts.specs.Named.{Named, Suits};
+ghost use Rattle.paths.specs.Exceeding.{Postings};
+ghost use Rattle.paths.specs.Own.{exceedsOwn};
 use checks::checks::bad_if_comes;
 use checks::checks::bad_price;
 use checks::checks::bad_status;
@@ -51,6 +53,7 @@ use layout::rows::word_at;
 use megawatts::reading::count_of;
 use megawatts::reading::profile_in_force;
 use megawatts::reading::span_at;
+use paths::exceeding::exceeds_confirming_own;
 use rules::Action;
 
 // 8 and 13 bid; 13 confirms.
@@ -216,6 +219,30 @@ pub fn customer_over(l: &[u32], words: &[u32], rows: usize, hours: usize, a: Act
         return over_confirming_own(l, rows, hours, row.0);
     }
     false
+}
+
+// It would use more of a path than is posted: where it confirms.
+pub fn customer_uses(
+    l: &[u32],
+    postings: &[u32],
+    words: &[u32],
+    rows: usize,
+    hours: usize,
+    a: Action,
+) -> bool
+    requires { ⌜ SoundAt (now l) rows hours ⌝ }
+    requires { ⌜ customerNumber hours (now l) (now words) a ≡ 0 ⌝ }
+    requires { ⌜ Postings hours (now postings) ⌝ }
+    ensures { λ b. ⌜ b ≡ (bids a && (confirms a && exceedsOwn hours (now (l .entry)) (rowNamed a) (now (postings .entry)))) ⌝ }
+{
+    let row = named(a);
+    if !is_bid(a) {
+        return false;
+    }
+    if !is_confirming(a) {
+        return false;
+    }
+    exceeds_confirming_own(l, postings, rows, hours, row.0)
 }
 
 // What is written in the row itself, which is lent: bid, and requested if a profile comes.

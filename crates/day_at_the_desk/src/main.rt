@@ -1,7 +1,9 @@
-// A day at the desk: the fourteen actions of document 01, carried out one after the other.
+// A day at the desk: the fourteen actions of document 01, carried out one after the other, on two paths that were
+// posted before.
 // A line for each: action, number, reference, status before, status after, MW-hours moved.
 use layout::numbers::*;
 use ledger::numbering::CUSTOMER_STATUS;
+use ledger::numbering::POST;
 use ledger::numbering::SELLER_STATUS;
 use ledger::numbering::SUBMIT;
 use libc::STDOUT_FILENO;
@@ -21,7 +23,17 @@ const DESK_BASE: u32 = 0;
 
 const LEDGER_WORDS: usize = HEAD_WORDS + DESK_ROWS * (ROW_WORDS + PROFILES * DESK_HOURS);
 
+const POSTINGS_WORDS: usize = MOST_PATH as usize * DESK_HOURS;
+
+// The path of the original and the resales, and that of the redirect and its relinquishment.
+const FIRST_PATH: u32 = 1;
+
+const SECOND_PATH: u32 = 2;
+
 const ACTIONS: usize = 14;
+
+// What is posted of either path.
+const POSTED_WORDS: [u32; DESK_HOURS] = [100, 100, 100, 100];
 
 // The profiles one after the other: the original, the first resale, the redirect, the second resale, the relinquishment.
 const PROFILE_WORDS: [u32; 10] = [100, 100, 100, 100, 40, 60, 40, 50, 1, 20];
@@ -39,8 +51,30 @@ const RELINQUISH_AT: u32 = 9;
 // The hours from start up to, not including, stop.
 struct Span(u32, u32);
 
+// A posting of the provider, of all hours of a path.
+fn post(path: u32) -> Action {
+    Action {
+        kind: POST,
+        actor: DESK_PROVIDER,
+        reference: 0,
+        reqtype: 0,
+        status: 0,
+        seller: 0,
+        related: 0,
+        start: 0,
+        stop: DESK_HOURS as u32,
+        flags: 0,
+        price: 0,
+        time: 0,
+        offset: 0,
+        length: DESK_HOURS as u32,
+        path,
+    }
+}
+
 // A request of its customer to its seller. Its profile starts at `offset` of the words.
 fn submit(
+    path: u32,
     customer: u32,
     reqtype: u32,
     seller: u32,
@@ -65,12 +99,14 @@ fn submit(
         time: 0,
         offset,
         length: std::num::wrapping_sub_u32(span.1, span.0),
+        path,
     }
 }
 
 // A firm original, of the provider.
 fn submit_original(customer: u32, span: Span, bid: u32, offset: u32) -> Action {
     submit(
+        FIRST_PATH,
         customer,
         ORIGINAL_FIRM,
         DESK_PROVIDER,
@@ -92,6 +128,7 @@ fn submit_resale(
     offset: u32,
 ) -> Action {
     submit(
+        FIRST_PATH,
         customer,
         RESALE,
         seller,
@@ -106,6 +143,7 @@ fn submit_resale(
 // A non-firm redirect, preconfirmed.
 fn submit_redirect(customer: u32, related: u32, span: Span, bid: u32, offset: u32) -> Action {
     submit(
+        SECOND_PATH,
         customer,
         NONFIRM_REDIRECT,
         DESK_PROVIDER,
@@ -120,6 +158,7 @@ fn submit_redirect(customer: u32, related: u32, span: Span, bid: u32, offset: u3
 // A part of a redirect given up, preconfirmed.
 fn submit_relinquishment(customer: u32, related: u32, span: Span, bid: u32, offset: u32) -> Action {
     submit(
+        SECOND_PATH,
         customer,
         RELINQUISH,
         DESK_PROVIDER,
@@ -148,6 +187,7 @@ fn name_status(kind: u32, actor: u32, reference: u32, status: u32, price: u32) -
         time: 0,
         offset: 0,
         length: 0,
+        path: 0,
     }
 }
 
@@ -201,10 +241,18 @@ fn print_line(action: usize, answer: Answer) {
     io::write_all(STDOUT_FILENO, b"\n");
 }
 
+// Posts a path before the day. It has no line, unless it is refused: then one, as action 0.
+fn post_before(l: &mut [u32], postings: &mut [u32], path: u32) {
+    let answer = ledger::act(l, postings, &POSTED_WORDS, post(path));
+    if answer.number != 0 {
+        print_line(0, answer);
+    }
+}
+
 // Carries each action out, and prints its line.
-fn carry_out(l: &mut [u32], words: &[u32], actions: [Action; ACTIONS]) {
+fn carry_out(l: &mut [u32], postings: &mut [u32], words: &[u32], actions: [Action; ACTIONS]) {
     for i in 0..ACTIONS {
-        let answer = ledger::act(l, words, actions[i]);
+        let answer = ledger::act(l, postings, words, actions[i]);
         print_line(i + 1, answer);
     }
 }
@@ -219,5 +267,8 @@ fn main() {
         DESK_WINDOW,
         DESK_BASE,
     );
-    carry_out(&mut ledger, &PROFILE_WORDS, day());
+    let mut postings = [0u32; POSTINGS_WORDS];
+    post_before(&mut ledger, &mut postings, FIRST_PATH);
+    post_before(&mut ledger, &mut postings, SECOND_PATH);
+    carry_out(&mut ledger, &mut postings, &PROFILE_WORDS, day());
 }

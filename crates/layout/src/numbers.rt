@@ -5,7 +5,7 @@ pub const HEAD_WORDS: usize = 8;
 
 pub const ROW_WORDS: usize = 16;
 
-pub const USED_WORDS: usize = 11;
+pub const USED_WORDS: usize = 12;
 
 pub const PROFILES: usize = 4;
 
@@ -27,6 +27,8 @@ pub const MOST_TYPE: u32 = 8;
 pub const MOST_STATUS: u32 = 17;
 
 pub const MOST_FLAGS: u32 = 31;
+
+pub const MOST_PATH: u32 = 64;
 
 pub const END_HOUR: u32 = 876600;
 
@@ -73,6 +75,8 @@ pub const BID: usize = 8;
 pub const OFFER: usize = 9;
 
 pub const LIMIT: usize = 10;
+
+pub const PATH: usize = 11;
 
 // Flags.
 pub const PRECONFIRMED: u32 = 1;
@@ -180,3 +184,7 @@ pub const PARTLY_USED: u32 = 15;
 pub const TOO_EARLY: u32 = 16;
 
 pub const FEWER_ANSWERS: u32 = 17;
+
+pub const WRONG_PATH: u32 = 21;
+
+pub const OVER_POSTED: u32 = 22;

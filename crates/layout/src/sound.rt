@@ -7,6 +7,8 @@ ghost use Rattle.words.specs.Lists.{allBelow, within, zeros};
 ghost use Rattle.rules.specs.Numbers.{rowWords, profiles, mostHours, mostMegawatts};
 ghost use Rattle.rules.specs.Layout.{Sized, rowBase, rowSize, row, reqtype, start as startOf, stop as stopOf, hoursOf};
 ghost use Rattle.rules.specs.Sound.{inside, relates as mayRelate, soundHead, soundWords, soundProfile, soundRelated, soundRow, sound as isSound};
+ghost use Rattle.rules.specs.Paths.{soundPostings};
+ghost use Rattle.rules.specs.Act.{soundBoth};
 ghost use Rattle.layout.specs.Bounds.{Spanned};
 use crate::class::is_original;
 use crate::class::is_upward;
@@ -50,7 +52,10 @@ fn sound_words(r: &[u32], hours: usize) -> bool
                                 & ((r[BID] <= MOST_PRICE)
                                     & ((r[OFFER] <= MOST_PRICE)
                                         & ((r[LIMIT] < END_LIMIT)
-                                            & words::all_zero(&r[USED_WORDS..ROW_WORDS]))))))))))
+                                            & (from_one(r[PATH], MOST_PATH)
+                                                & words::all_zero(
+                                                    &r[USED_WORDS..ROW_WORDS],
+                                                )))))))))))
 }
 
 // Tests of hours of profile p: they are 0; they are at most 100,000.
@@ -180,4 +185,23 @@ pub fn sound(l: &[u32]) -> bool
     let hours = l[HOURS] as usize;
     let used = l[USED] as usize;
     sound_rows(l, rows, hours, used) && unused_zero(l, rows, hours, used)
+}
+
+// The right length for these hours, and no word over 100,000.
+pub fn sound_postings(postings: &[u32], hours: usize) -> bool
+    requires { ⌜ hours ≤ mostHours ⌝ }
+    ensures { λ b. ⌜ b ≡ soundPostings hours (now (postings .entry)) ⌝ }
+{
+    postings.len() == MOST_PATH as usize * hours && words::all_within(MOST_MEGAWATTS, postings)
+}
+
+// The ledger, and the postings for its hours.
+pub fn sound_both(l: &[u32], postings: &[u32]) -> bool
+    ensures { λ b. ⌜ b ≡ soundBoth (now (l .entry)) (now (postings .entry)) ⌝ }
+{
+    if !sound(l) {
+        return false;
+    }
+    let hours = l[HOURS] as usize;
+    sound_postings(postings, hours)
 }

@@ -8,13 +8,13 @@ ghost use Rattle.words.specs.Lists.{total};
 ghost use Rattle.rules.specs.Pick.{pick};
 ghost use Rattle.rules.specs.Numbers.{profiles, CONFIRMED as confirmed};
 ghost use Rattle.rules.specs.Layout.{hours, used, row, span, available};
-ghost use Rattle.rules.specs.Sound.{sound as isSound};
 ghost use Rattle.rules.specs.Checks.{profile};
-ghost use Rattle.rules.specs.Act.{kindAfter, number as numberOf, refusal, movedBetween, movedBy, answered};
+ghost use Rattle.rules.specs.Act.{kindAfter, postingsAfter, number as numberOf, refusal, movedBetween, movedBy, answered, soundBoth};
 ghost use Rattle.layout.specs.SoundAt.{SoundAt};
 ghost use Rattle.ledger.specs.Moving.{SmallProfile, Passes};
 use crate::applying::apply;
 use crate::numbering::CLOCK;
+use crate::numbering::POST;
 use crate::numbering::REDUCE;
 use crate::numbering::SUBMIT;
 use checks::checks::named;
@@ -143,7 +143,7 @@ fn accept_submission(l: &mut [u32], words: &[u32], rows: usize, hours: usize, a:
 // An action on a row that has a reference.
 fn accept_named(l: &mut [u32], words: &[u32], rows: usize, hours: usize, a: Action) -> Answer
     requires { ⌜ Passes (now l) (now words) rows hours a ⌝ }
-    requires { ⌜ (a .kind ≢ 1) × (a .kind ≢ 7) ⌝ }
+    requires { ⌜ (a .kind ≢ 1) × (a .kind ≢ 7) × (a .kind ≢ 8) ⌝ }
     ensures answer { λ r. ⌜ r ≡ answered hours (now (l .entry)) (now (words .entry)) a (kindAfter hours (now (l .entry)) (now (words .entry)) a) ⌝ }
     ensures ledger { λ r. ⌜ now (l .exit) ≡ kindAfter hours (now (l .entry)) (now (words .entry)) a ⌝ }
 {
@@ -174,11 +174,12 @@ fn accept_clock(l: &mut [u32], words: &[u32], rows: usize, hours: usize, a: Acti
     refused(0)
 }
 
-// An action that passed every check.
-pub fn accept(l: &mut [u32], words: &[u32], a: Action) -> Answer
-    requires { ⌜ (isSound (now l) ≡ true) × (numberOf true (now l) (now words) a ≡ 0) ⌝ }
+// An action that passed every check. A posting gives five zeros too; it alone writes the postings.
+pub fn accept(l: &mut [u32], postings: &mut [u32], words: &[u32], a: Action) -> Answer
+    requires { ⌜ (soundBoth (now l) (now postings) ≡ true) × (numberOf true (now l) (now postings) (now words) a ≡ 0) ⌝ }
     ensures answer { λ r. ⌜ r ≡ answered (hours (now (l .entry))) (now (l .entry)) (now (words .entry)) a (kindAfter (hours (now (l .entry))) (now (l .entry)) (now (words .entry)) a) ⌝ }
     ensures ledger { λ r. ⌜ now (l .exit) ≡ kindAfter (hours (now (l .entry))) (now (l .entry)) (now (words .entry)) a ⌝ }
+    ensures postings { λ r. ⌜ now (postings .exit) ≡ postingsAfter (hours (now (l .entry))) (now (postings .entry)) (now (words .entry)) a ⌝ }
 {
     let rows = l[ROWS] as usize;
     let hours = l[HOURS] as usize;
@@ -188,6 +189,10 @@ pub fn accept(l: &mut [u32], words: &[u32], a: Action) -> Answer
     }
     if kind == CLOCK {
         return accept_clock(l, words, rows, hours, a);
+    }
+    if kind == POST {
+        provider::post::post(postings, words, hours, a);
+        return refused(0);
     }
     accept_named(l, words, rows, hours, a)
 }

@@ -1,10 +1,11 @@
-// What an accepted action does to the ledger.
+// What an accepted action does to the ledger: a posting leaves it as it is.
 ghost use mathlib.Core.Path.{_≡_};
 ghost use mathlib.Core.Bool.{false};
 ghost use Rattle.rules.specs.Megawatts.{carriesOver};
 ghost use Rattle.rules.specs.Act.{kindNumber, kindAfter};
 ghost use Rattle.layout.specs.SoundAt.{SoundAt};
 use crate::numbering::APPROVE;
+use crate::numbering::CLOCK;
 use crate::numbering::CUSTOMER_STATUS;
 use crate::numbering::LAPSE;
 use crate::numbering::REDUCE;
@@ -41,6 +42,9 @@ pub fn apply(l: &mut [u32], words: &[u32], rows: usize, hours: usize, a: Action)
     }
     if kind == LAPSE {
         provider::lapse::lapse(l, rows, hours, a);
+        return;
+    }
+    if kind != CLOCK {
         return;
     }
     provider::clock::clock(l, a);

@@ -26,25 +26,27 @@ pub extern "C" fn luddrisa_create(
     layout::create::create(ledger, rows, hours, provider, window, base)
 }
 
-// Actions handed over together, each answered in turn. 17: fewer answers than actions, nothing done. Spare answer places are not written.
+// Actions in turn, each answered; ledger and postings are tested once. 17: fewer answers than actions, nothing done.
 #[no_mangle]
 pub extern "C" fn luddrisa_batch(
     ledger: &mut [u32],
+    postings: &mut [u32],
     words: &[u32],
     actions: &[Action],
     answers: &mut [Answer],
 ) -> u32
     ensures number { λ r. ⌜ r ≡ togetherNumber (now (actions .entry)) (length (now (answers .entry))) ⌝ }
-    ensures ledger { λ r. ⌜ now (ledger .exit) ≡ togetherRun (now (ledger .entry)) (now (words .entry)) (now (actions .entry)) (length (now (answers .entry))) .ledger ⌝ }
-    ensures answers { λ r. ⌜ now (answers .exit) ≡ togetherAnswers (now (ledger .entry)) (now (words .entry)) (now (actions .entry)) (now (answers .entry)) ⌝ }
+    ensures ledger { λ r. ⌜ now (ledger .exit) ≡ togetherRun (now (ledger .entry)) (now (postings .entry)) (now (words .entry)) (now (actions .entry)) (length (now (answers .entry))) .ledger ⌝ }
+    ensures postings { λ r. ⌜ now (postings .exit) ≡ togetherRun (now (ledger .entry)) (now (postings .entry)) (now (words .entry)) (now (actions .entry)) (length (now (answers .entry))) .postings ⌝ }
+    ensures answers { λ r. ⌜ now (answers .exit) ≡ togetherAnswers (now (ledger .entry)) (now (postings .entry)) (now (words .entry)) (now (actions .entry)) (now (answers .entry)) ⌝ }
 {
     if answers.len() < actions.len() {
         return FEWER_ANSWERS;
     }
-    let sound = layout::sound::sound(ledger);
+    let sound = layout::sound::sound_both(ledger, postings);
     let mut i = 0;
     while i < actions.len() {
-        answers[i] = ledger::step(ledger, words, sound, actions[i]);
+        answers[i] = ledger::step(ledger, postings, words, sound, actions[i]);
         i += 1;
     }
     0

@@ -17,7 +17,7 @@ use Rattle.rules.specs.Confirming.{confirm, short}
 use Rattle.rules.specs.Checks.{named, namedRow, profile, noReference, notProvider, waitsAt}
 use Rattle.rules.specs.Approve.{approveNumber, approveAfter}
 use Rattle.rules.specs.Reduce.{reduceNumber, reduceAfter}
-use Rattle.rules.specs.Lapse.{lapseAfter}
+use Rattle.rules.specs.Lapse.{lapseNumber, lapseAfter}
 use Rattle.rules.specs.Clock.{clockAfter}
 use Rattle.rules.specs.declared.Action.{Action}
 use Rattle.rules.proofs.Picks.{hit, skip, skip-call, and-stops}
@@ -28,7 +28,7 @@ use Rattle.rules.proofs.Formed.{Formed, formed}
 use Rattle.rules.proofs.Placed as P
 use Rattle.rules.proofs.Turned.{Turned}
 use Rattle.rules.proofs.Unmoved.{Unmoved, unmoved-turned}
-use Rattle.rules.proofs.Passed.{approve-passed, reduce-passed, profile-length}
+use Rattle.rules.proofs.Passed.{approve-passed, reduce-passed, lapse-passed, confirm-passed, profile-length}
 use Rattle.rules.proofs.Kept.{Next, same-self, same-approved, next-own, fitting-force}
 use Rattle.rules.proofs.Before as B
 use Rattle.rules.proofs.Over.{overConfirming}
@@ -36,6 +36,7 @@ use Rattle.rules.proofs.Over as O
 use Rattle.layout.specs.SoundAt.{SoundAt}
 use Rattle.megawatts.specs.Placed.{Placed}
 use Rattle.megawatts.proofs.Laws.{sized}
+use Rattle.provider.specs.Waiting.{Waiting}
 
 -- ---- a reference that was issued
 pub issued-known : (l : List ℕ) (a : Action) → (1 ≤ a .reference) × (a .reference ≤ used l) → noReference l a ≡ false
@@ -196,3 +197,14 @@ module _ {l : List ℕ} {R H : ℕ} (s : SoundAt l R H) where
       go false w =
           ap (carriesOver H) (approve-marks H l a w)
           ∙ subst (λ (x : ℕ). carriesOver x (onRow x (named a) (raise approved) l) ≡ false) (sym (s .hours)) (O.over-approved (s .sound) lt)
+
+-- ---- a row that waits passed the 14 of confirming
+pub approve-waiting : (H : ℕ) (l : List ℕ) (a : Action) → approveNumber H l a ≡ 0 → Waiting H l a ACCEPTED
+approve-waiting H l a e =
+    let P = approve-passed H l a e in
+    record { issued = P .reference; ample = λ w. confirm-passed _ _ _ _ _ (P .confirms w) .short }
+
+pub lapse-waiting : (H : ℕ) (l : List ℕ) (a : Action) → lapseNumber H l a ≡ 0 → Waiting H l a CR-ACCEPTED
+lapse-waiting H l a e =
+    let P = lapse-passed H l a e in
+    record { issued = P .reference; ample = λ w. confirm-passed _ _ _ _ _ (P .confirms w) .short }

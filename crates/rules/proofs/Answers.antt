@@ -1,7 +1,7 @@
 -- What is answered, by the kind of the action.
 use mathlib.Core.Path.{_≡_, refl, sym, ap, subst, _∙_}
 use mathlib.Core.Logic.{_≢_, _⊎_, inl, inr}
-use mathlib.Core.Bool.{Bool, true, false, _&&_, not}
+use mathlib.Core.Bool.{Bool, true, false, _&&_, _||_, not}
 use mathlib.Core.List.{List}
 use Prim.Native.Nat.{ℕ, suc, _+_, _-_, _≤_, _<_}
 use native.Mathlib.Omega.{arith}
@@ -27,10 +27,12 @@ pub record AnswerOf (answer : Answer) (r old new : ℕ) : Type 0 where
 pub answer-counts : {answer : Answer} {r before after : ℕ} → AnswerOf answer r before after → 1 ≤ r → counts answer ≡ true
 answer-counts {answer} {r} A least = counted answer (A .number) (omega (arith, A .reference))
 
-module _ (H : ℕ) (l w : List ℕ) (a : Action) (next : List ℕ) (clock : a .kind ≢ 7) where
+module _ (H : ℕ) (l w : List ℕ) (a : Action) (next : List ℕ) (clock : a .kind ≢ 7) (post : a .kind ≢ 8) where
   is-accepted : answered H l w a next ≡ acceptance H l w a next
   unfolding answered
-  is-accepted = ap (λ (b : Bool). pick b (refusal 0) (acceptance H l w a next)) (ne-eqb (a .kind) 7 clock)
+  is-accepted =
+      ap (λ (b : Bool). pick (b || eqb (a .kind) 8) (refusal 0) (acceptance H l w a next)) (ne-eqb (a .kind) 7 clock)
+      ∙ ap (λ (b : Bool). pick b (refusal 0) (acceptance H l w a next)) (ne-eqb (a .kind) 8 post)
 
   -- of an action that names its row
   pub named-answer : a .kind ≢ 1 → AnswerOf (answered H l w a next) (a .reference) (status (namedRow H l a)) (status (row H next (named a)))

@@ -132,7 +132,7 @@ standing-none : (s h : ℕ) → standing s [] h ≡ 0
 standing-none s h = ⊎-elim (λ u. standing-off s [] (inl u)) (λ u. standing-off s [] (inr (omega (arith, u)))) (lt-or-le h s)
 
 -- ---- an invariant of ledger and tally, and that they balance
-module _ {l : List ℕ} {t : Tally} (G : Good l t) where
+module _ {B : ℕ → ℕ → ℕ} {l : List ℕ} {t : Tally} (G : Good B l t) where
   -- reference suc n is row n
   own : (n : ℕ) → rowIn l (suc n) ≡ row (hours l) l n
   own n = let e : suc n - 1 ≡ n = omega arith in ap (λ (m : ℕ). row (hours l) l m) e
@@ -175,7 +175,7 @@ module _ {l : List ℕ} {t : Tally} (G : Good l t) where
 
     module _ (h : ℕ) (hlt : h < hours l) (on : live (t (suc n) .status) ≡ true) where
       D : Column.Demand3 (viewOf (hours l) h l t)
-      D = demand3-of (G .good .shape h hlt) (G .good .inv h hlt)
+      D = demand3-of (G .good .columns h hlt .shape) (G .good .columns h hlt .inv)
 
       is-live : Live (status (row (hours l) l n))
       is-live = subst Live (E .same-status) (live-is (t (suc n) .status) on)
@@ -212,7 +212,7 @@ module _ {l : List ℕ} {t : Tally} (G : Good l t) where
 
           deeper : (m : ℕ) → m < used l → descendsWithin (suc (suc m)) t (suc n) (suc m) ≡ inside (λ i. related (row (hours l) l i)) n m
           deeper m mlt =
-              enough t (λ i. related (row (hours l) l i)) (used l) n relates (G .good .shape h hlt .lower) m mlt
+              enough t (λ i. related (row (hours l) l i)) (used l) n relates (G .good .columns h hlt .shape .lower) m mlt
 
   pub balanced : Balanced l t
   balanced = record {

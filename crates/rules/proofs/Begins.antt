@@ -12,7 +12,7 @@ use lib.IntN.{ℤ, pos}
 use Rattle.words.specs.Lists.{splice}
 use Rattle.words.proofs.Laws.{lt-or-le, noughts-at, splice-length, splice-in, splice-after}
 use Rattle.rules.specs.Numbers.{requestedPart, availablePart, displacedPart, NONFIRM-REDIRECT, RELINQUISH}
-use Rattle.rules.specs.Layout.{rows, hours, used, rowOf, row, onRow, rowBase, rowSize, reqtype, status, related, hourAt, Sized}
+use Rattle.rules.specs.Layout.{rows, hours, used, rowOf, row, onRow, rowBase, rowSize, reqtype, status, related, path, hourAt, Sized}
 use Rattle.rules.specs.Create.{fresh}
 use Rattle.rules.specs.Checks.{profile}
 use Rattle.rules.specs.Submit.{newWords, newRow, submitAfter}
@@ -41,16 +41,16 @@ unfolding newRow newWords
 new-row {H} {h} hlt w a r long fits =
     let v : List ℕ = newWords a in
     let q : List ℕ = splice r 0 v in
-    let nine : length v ≡ 9 = refl in
-    let room : 0 + length v ≤ length r = omega (arith, nine, long) in
+    let twelve : length v ≡ 12 = refl in
+    let room : 0 + length v ≤ length r = omega (arith, twelve, long) in
     let c = calm-hours (calm-self H h q (splice-length r 0 v room ∙ long)) requestedPart (a .start) (profile w a) (lit< tt) fits in
     record {
       long = c .long;
       type = c .type ∙ splice-in r 0 v room 0 (lit< tt);
       status = c .status ∙ splice-in r 0 v room 1 (lit< tt);
       related = c .related ∙ splice-in r 0 v room 4 (lit< tt);
-      available = c .available ∙ splice-after r 0 v room (hourAt H availablePart h) (omega (arith, nine));
-      displaced = c .displaced ∙ splice-after r 0 v room (hourAt H displacedPart h) (omega (arith, nine));
+      available = c .available ∙ splice-after r 0 v room (hourAt H availablePart h) (omega (arith, twelve));
+      displaced = c .displaced ∙ splice-after r 0 v room (hourAt H displacedPart h) (omega (arith, twelve));
     }
 
 -- the action's type and the row that it names as related
@@ -108,6 +108,7 @@ module _ {R H : ℕ} {l : List ℕ} (sized : Sized l R H) (left : used l < R) (w
         used = new-used;
         ty = λ m ne. ap (λ (x : List ℕ). reqtype x) (new-other m ne);
         ref = λ m ne. ap (λ (x : List ℕ). related x) (new-other m ne);
+        path = λ m ne. ap (λ (x : List ℕ). path x) (new-other m ne);
         rest = λ m ne. still H h l l′ out out′ red red′ m (new-other m ne);
         st = ((λ z. omega (arith, z, st′)), (λ z. omega (arith, z, st′)));
         a = ap (λ (x : List ℕ). megawatts H h x availablePart) new-own ∙ new .available;
@@ -121,10 +122,10 @@ module _ {R H : ℕ} {l : List ℕ} (sized : Sized l R H) (left : used l < R) (w
       }
 
 pub submit-step : {l : List ℕ} → Formed l → used l < rows l → (w : List ℕ) (a : Action) → a .start + length (profile w a) ≤ hours l → NewRelation (hours l) l a
-    → {h : ℕ} → h < hours l → (out out′ : ℕ → ℕ → ℤ) (red red′ : ℕ → ℤ)
+    → {h : ℕ} → h < hours l → (out out′ : ℕ → ℕ → ℤ) (red red′ : ℕ → ℤ) {B : ℕ → ℕ}
     → OutStays (view (hours l) h l out red) (view (hours l) h (submitAfter (hours l) l w a) out′ red′)
     → RedStays (view (hours l) h l out red) (view (hours l) h (submitAfter (hours l) l w a) out′ red′)
-    → Step (view (hours l) h l out red) (view (hours l) h (submitAfter (hours l) l w a) out′ red′)
+    → Step B (view (hours l) h l out red) (view (hours l) h (submitAfter (hours l) l w a) out′ red′)
 submit-step f left w a fits e hlt out out′ red red′ outs reds =
     submit (submit-of (formed-sized f) left w a fits hlt out out′ red red′ e outs reds)
 
@@ -137,10 +138,10 @@ clock-used : (l : List ℕ) (a : Action) → used (clockAfter l a) ≡ used l
 unfolding clockAfter
 clock-used l a = getD-set-other l 5 6 (a .time) 0 (λ e. omega (arith, e))
 
-pub clock-step : (H h : ℕ) (l : List ℕ) (a : Action) (out out′ : ℕ → ℕ → ℤ) (red red′ : ℕ → ℤ)
+pub clock-step : (H h : ℕ) (l : List ℕ) (a : Action) (out out′ : ℕ → ℕ → ℤ) (red red′ : ℕ → ℤ) {B : ℕ → ℕ}
     → OutStays (view H h l out red) (view H h (clockAfter l a) out′ red′)
     → RedStays (view H h l out red) (view H h (clockAfter l a) out′ red′)
-    → Step (view H h l out red) (view H h (clockAfter l a) out′ red′)
+    → Step B (view H h l out red) (view H h (clockAfter l a) out′ red′)
 clock-step H h l a out out′ red red′ outs reds =
     same
     record {
@@ -148,6 +149,7 @@ clock-step H h l a out out′ red red′ outs reds =
         used = clock-used l a;
         ty = λ n. ap (λ (x : List ℕ). reqtype x) (clock-row H l a n);
         ref = λ n. ap (λ (x : List ℕ). related x) (clock-row H l a n);
+        path = λ n. ap (λ (x : List ℕ). path x) (clock-row H l a n);
       };
       rest = λ n. still H h l (clockAfter l a) out out′ red red′ n (clock-row H l a n);
       outs = outs;

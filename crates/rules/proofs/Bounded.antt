@@ -339,12 +339,12 @@ unmoved-bounded {H} {r} {q} stops k b = record {
 }
 
 module _ (H : ℕ) (r : List ℕ) (e : length r ≡ rowSize H) (w : List ℕ) (a : Action) (fits : a .start + length (profile w a) ≤ H) where
-  nine : length (newWords a) ≡ 9
+  twelve : length (newWords a) ≡ 12
   unfolding newWords
-  nine = refl
+  twelve = refl
 
   fore : 0 + length (newWords a) ≤ length r
-  fore = omega (arith, nine, e)
+  fore = omega (arith, twelve, e)
 
   new-unmoved : Unmoved H (splice r 0 (newWords a)) (newRow H w a r)
   unfolding newRow
@@ -352,7 +352,7 @@ module _ (H : ℕ) (r : List ℕ) (e : length r ≡ rowSize H) (w : List ℕ) (a
 
   new-stop : stop (splice r 0 (newWords a)) ≡ a .stop
   unfolding newWords
-  new-stop = splice-in r 0 (newWords a) fore 6 (omega (arith, nine))
+  new-stop = splice-in r 0 (newWords a) fore 6 (omega (arith, twelve))
 
   pub new-long : length (newRow H w a r) ≡ rowSize H
   new-long = new-unmoved .long
@@ -361,4 +361,4 @@ module _ (H : ℕ) (r : List ℕ) (e : length r ≡ rowSize H) (w : List ℕ) (a
   pub new-bounded : ((k : ℕ) → getD r k 0 ≡ 0) → a .stop ≤ H → Bounded H (newRow H w a r)
   new-bounded zero stops =
       unmoved-bounded (omega (arith, new-stop, stops)) new-unmoved
-      (record { most = λ p h low high least below. omega (arith, splice-after r 0 (newWords a) fore (hourAt H p h) (omega (arith, nine)), zero (hourAt H p h)) })
+      (record { most = λ p h low high least below. omega (arith, splice-after r 0 (newWords a) fore (hourAt H p h) (omega (arith, twelve)), zero (hourAt H p h)) })

@@ -9,10 +9,11 @@ use lib.Dec.{eqb, lit<}
 use lib.ListN.{length, getD}
 use lib.IntN.{ℤ, pos, negℤ, _+ℤ_}
 use Rattle.column.specs.Column.{share, Off}
+use Rattle.column.specs.Use.{Tested, useOf}
 use Rattle.column.specs.Step.{Step}
 use Rattle.rules.specs.Pick.{pick}
 use Rattle.rules.specs.Numbers.{grantedPart, grantedGiven, CONFIRMED, RELINQUISH, NONFIRM-REDIRECT}
-use Rattle.rules.specs.Layout.{rows, hours, used, rowOf, row, reqtype, status, related, start, stop, relatedRow, has, spanHours, hourAt, granted, span, standing}
+use Rattle.rules.specs.Layout.{rows, hours, used, rowOf, row, reqtype, status, related, path, start, stop, relatedRow, has, spanHours, hourAt, granted, span, standing}
 use Rattle.rules.specs.Confirming.{held, emptied, confirm, unconfirmed, short}
 use Rattle.rules.specs.Tally.{Entry, Tally, grantedIn, changed, counts, feed}
 use Rattle.rules.specs.declared.Action.{Action}
@@ -28,18 +29,19 @@ use Rattle.rules.proofs.Effects.{confirm-leaves, leaves-trans}
 use Rattle.rules.proofs.Placed.{Placed, placed-in}
 use Rattle.rules.proofs.Steps.{Tallied, confirm-at}
 use Rattle.rules.proofs.TallyLaws.{Like, entryAfter, fed-own, fed-other, fed-red, fed-top, fed-child, fed-give}
-use Rattle.rules.proofs.Good.{Agrees, Good}
+use Rattle.rules.proofs.Good.{Agrees, Ordered, Good}
 use Rattle.rules.proofs.Entries.{agrees-like, agrees-granted, words-spanned}
-use Rattle.rules.proofs.Keeping.{Ordered, ordered, stepped, good-leaves}
+use Rattle.rules.proofs.Keeping.{ordered, stepped, good-leaves}
 use Rattle.words.proofs.Laws.{lt-or-le}
 
 -- a ledger before the confirmation: l with its row n written, or l itself
-pub record Ready (l l1 : List ℕ) (t : Tally) (n : ℕ) (r1 : List ℕ) : Type 0 where
+pub record Ready (B : ℕ → ℕ → ℕ) (l l1 : List ℕ) (t : Tally) (n : ℕ) (r1 : List ℕ) : Type 0 where
   pub formed : Formed l1
   pub leaves : Leaves (rows l) (hours l) l l1 n r1
   pub same-type : reqtype r1 ≡ reqtype (row (hours l) l n)
   pub same-related : related r1 ≡ related (row (hours l) l n)
-  pub ordered : (h : ℕ) → h < hours l → Ordered (view (hours l) h l1 (outOf t h) (redOf t h))
+  pub same-path : path r1 ≡ path (row (hours l) l n)
+  pub ordered : (h : ℕ) → h < hours l → Ordered (B h) (view (hours l) h l1 (outOf t h) (redOf t h))
   pub off : Off (status r1)
 
 -- the row as it is confirmed
@@ -47,7 +49,7 @@ abbrev pub confirmedRow : ℕ → List ℕ → List ℕ → List ℕ
 confirmedRow H mw r = pick (eqb (reqtype r) RELINQUISH) (emptied H (start r) mw r) (held H (start r) mw r)
 
 -- a later action of kind 2 to 6 on row n was accepted, and its answer is fed
-module _ {l : List ℕ} {t : Tally} (G : Good l t) {n : ℕ} (lt : n < used l) (a : Action) (w : List ℕ) (answer : Answer) (count : counts answer ≡ true) (later : a .kind ≢ 1) (reference : answer .reference ≡ suc n) where
+module _ {B : ℕ → ℕ → ℕ} {l : List ℕ} {t : Tally} (G : Good B l t) {n : ℕ} (lt : n < used l) (a : Action) (w : List ℕ) (answer : Answer) (count : counts answer ≡ true) (later : a .kind ≢ 1) (reference : answer .reference ≡ suc n) where
   abbrev H : ℕ
   H = hours l
 
@@ -72,17 +74,17 @@ module _ {l : List ℕ} {t : Tally} (G : Good l t) {n : ℕ} (lt : n < used l) (
   agreed {r} A = subst (λ (q : ℕ). Agrees H r (fed q)) reference (agrees-like (fed-own a w answer t count later) A)
 
   -- with each hour's column in order after it
-  pub follow-good : {l′ r : List ℕ} → SoundLedger l′ → Leaves (rows l) H l l′ n r → Agrees H r own → ((h : ℕ) → h < H → Ordered (view H h l′ (outOf fed h) (redOf fed h))) → Good l′ fed
+  pub follow-good : {l′ r : List ℕ} → SoundLedger l′ → Leaves (rows l) H l l′ n r → Agrees H r own → ((h : ℕ) → h < H → Ordered (B h) (view H h l′ (outOf fed h) (redOf fed h))) → Good B l′ fed
   follow-good S L A K = good-leaves G lt S L (agreed A) others K
 
   -- with a step of each hour's column
   pub step-good : {l′ r : List ℕ} → SoundLedger l′ → Leaves (rows l) H l l′ n r → Agrees H r own
-      → ((h : ℕ) → h < H → Step (viewOf H h l t) (view H h l′ (outOf fed h) (redOf fed h))) → Good l′ fed
+      → ((h : ℕ) → h < H → Step (B h) (viewOf H h l t) (view H h l′ (outOf fed h) (redOf fed h))) → Good B l′ fed
   step-good S L A K = follow-good S L A (λ h hlt. stepped (K h hlt) (ordered G h hlt))
 
   -- with a confirmation, after a write in the row or none
-  module _ (five : a .kind ≢ 5) (before : answer .before ≢ CONFIRMED) (at : answer .after ≡ CONFIRMED) {l1 r1 : List ℕ} (Y : Ready l l1 t n r1) (mw : List ℕ) (long : length mw ≡ spanHours r1)
-      (c9 : unconfirmed H l1 n ≡ false) (c14 : short H l1 n mw ≡ false) (S : SoundLedger (confirm H n mw l1)) (A : Agrees H (confirmedRow H mw r1) own) where
+  module _ (five : a .kind ≢ 5) (before : answer .before ≢ CONFIRMED) (at : answer .after ≡ CONFIRMED) {l1 r1 : List ℕ} (Y : Ready B l l1 t n r1) (mw : List ℕ) (long : length mw ≡ spanHours r1)
+      (c9 : unconfirmed H l1 n ≡ false) (c14 : short H l1 n mw ≡ false) (S : SoundLedger (confirm H n mw l1)) (T : (h : ℕ) → h < H → Tested (B h) (view H h l (outOf t h) (redOf t h)) (view H h (confirm H n mw l1) (outOf fed h) (redOf fed h)) n) (A : Agrees H (confirmedRow H mw r1) own) where
     abbrev l2 : List ℕ
     l2 = confirm H n mw l1
 
@@ -140,9 +142,10 @@ module _ {l : List ℕ} {t : Tally} (G : Good l t) {n : ℕ} (lt : n < used l) (
       x : ℕ
       x = getD (row H l2 n) (hourAt H grantedPart h) 0
 
-      tallied : Tallied (view H h l1 (outOf t h) (redOf t h)) (view H h l2 (outOf fed h) (redOf fed h)) n (relatedRow H l1 n)
+      tallied : Tallied (B h) (view H h l1 (outOf t h) (redOf t h)) (view H h l2 (outOf fed h) (redOf fed h)) n (relatedRow H l1 n)
       unfolding x
       tallied = record {
+        paths = paths;
         tops = λ most. record { out = λ k m. fed-top a w answer t count later _ _ h x type-1 related-1 (granted-2 h hlt) before at (P .type-least) most k m };
         children = λ least ne k m. fed-child a w answer t count later _ _ h x type-1 related-1 (granted-2 h hlt) before at least ne (omega (arith, P .above least)) k m;
         givers = λ is8 k m.
@@ -156,10 +159,22 @@ module _ {l : List ℕ} {t : Tally} (G : Good l t) {n : ℕ} (lt : n < used l) (
         reds = record { red = λ m. fed-red a w answer t count later five h m };
       }
         where
+          -- no path has changed before the confirmation
+          paths : Tested (B h) (view H h l1 (outOf t h) (redOf t h)) (view H h l2 (outOf fed h) (redOf fed h)) n
+          paths = record {
+            own = subst (λ (y : ℕ). useOf (view H h l2 (outOf fed h) (redOf fed h)) y ≤ B h y) (sym (ap path own-1 ∙ Y .same-path)) (T h hlt .own);
+            above = λ m e.
+                let up : related (row H l n) ≡ suc m = sym (Y .same-related) ∙ sym (ap related own-1) ∙ e in
+                let low : m < n = omega (arith, up, G .good .columns h hlt .shape .lower n) in
+                subst (λ (y : ℕ). useOf (view H h l2 (outOf fed h) (redOf fed h)) y ≤ B h y)
+                (sym (Y .leaves .kin m (λ z. omega (arith, z, low)) (omega (arith, low, lt, G .sound .head .used)) .field 11 (lit< tt)))
+                (T h hlt .above m up);
+          }
+
           redirected : reqtype (row H l1 n) ≡ RELINQUISH → reqtype (row H l1 (relatedRow H l1 n)) ≡ NONFIRM-REDIRECT
           redirected is8 = subst (λ (J : ℕ). SoundRelation J l1 n) hours-1 (Y .formed .relations n used-1) .redirect is8
 
-    pub confirm-good : Good l2 fed
+    pub confirm-good : Good B l2 fed
     confirm-good =
         good-leaves G lt S leaves-2 (agreed A) others
         (λ h hlt. stepped (confirm-at P (subst (λ (r : List ℕ). Off (status r)) (sym own-1) (Y .off)) mw (long ∙ ap spanHours (sym own-1)) c9 c14 hlt (outOf t h) (outOf fed h) (redOf t h) (redOf fed h) (tallied h hlt)) (Y .ordered h hlt))

@@ -34,6 +34,7 @@ use Rattle.rules.proofs.TallyLaws.{fed-red, fed-quiet}
 use Rattle.rules.proofs.Entries.{force-length, bid-unsettled, status-agrees, bidden-start, bidden-agrees, bidden-confirms}
 use Rattle.rules.proofs.Good.{Agrees, Good}
 use Rattle.rules.proofs.Keeping.{stepped}
+use Rattle.rules.proofs.Tests.{Left}
 use Rattle.rules.proofs.Answers.{AnswerOf, answer-counts}
 use Rattle.rules.proofs.Confirmed.{Ready}
 use Rattle.rules.proofs.Readying.{ready-on}
@@ -44,18 +45,18 @@ bid-status : (a : Action) → bids a ≡ true → (a .status ≡ 8) ⊎ (a .stat
 unfolding bids
 bid-status a e = ⊎-elim (λ x. inl x) (λ x. inr (last-one (a .status) 13 x)) (is-one (a .status) 8 _ e)
 
-no-bid : (a : Action) → bids a ≡ false → (a .status ≢ 8) × (a .status ≢ 13)
+pub no-bid : (a : Action) → bids a ≡ false → (a .status ≢ 8) × (a .status ≢ 13)
 unfolding bids
 no-bid a e = (λ z. apart (ap (λ (s : ℕ). s among (8 ∷ 13 ∷ [])) z) e, λ z. apart (ap (λ (s : ℕ). s among (8 ∷ 13 ∷ [])) z) e)
   where
     apart : {b : Bool} → b ≡ true → b ≡ false → ⊥
     apart p q = let z : _≡_ {A = Bool} true false = sym p ∙ q in let y : _≡_ {A = ℕ} 0 1 = cc in omega arith
 
-no-confirm : (a : Action) → bids a ≡ true → confirms a ≡ false → a .status ≡ 8
+pub no-confirm : (a : Action) → bids a ≡ true → confirms a ≡ false → a .status ≡ 8
 unfolding confirms
 no-confirm a o c = ⊎-elim (λ x. x) (λ x. absurd (eqb-false (a .status) CONFIRMED c x)) (bid-status a o)
 
-module _ {l : List ℕ} {t : Tally} (G : Good l t) (w : List ℕ) (a : Action) (P : CustomerPassed (hours l) l w a) (k : a .kind ≡ 3) where
+module _ {B : ℕ → ℕ → ℕ} {l : List ℕ} {t : Tally} (G : Good B l t) (w : List ℕ) (a : Action) (P : CustomerPassed (hours l) l w a) (k : a .kind ≡ 3) where
   abbrev H : ℕ
   H = hours l
 
@@ -81,7 +82,7 @@ module _ {l : List ℕ} {t : Tally} (G : Good l t) (w : List ℕ) (a : Action) (
   move = customer-move (namedRow (hours l) l a) (a .status) (P .may)
 
   abbrev Kept : List ℕ → Type 0
-  Kept next = SoundLedger next → (answer : Answer) → AnswerOf answer (a .reference) (status (namedRow (hours l) l a)) (status (row (hours l) next (named a))) → Good next (feed a w answer t)
+  Kept next = Left B l next (named a) (status (namedRow (hours l) l a)) (status (row (hours l) next (named a))) → (answer : Answer) → AnswerOf answer (a .reference) (status (namedRow (hours l) l a)) (status (row (hours l) next (named a))) → Good B next (feed a w answer t)
 
   -- ---- 8, 13
   module _ (o : bids a ≡ true) where
@@ -94,7 +95,7 @@ module _ {l : List ℕ} {t : Tally} (G : Good l t) (w : List ℕ) (a : Action) (
     fits : comes a ≡ true → length (profile w a) ≡ spanHours r
     fits c = profile-length (Q .profile c)
 
-    Y : Ready l (onRow H n (bidden H w a) l) t n (bidden H w a r)
+    Y : Ready B l (onRow H n (bidden H w a) l) t n (bidden H w a r)
     Y = ready-on G lt (move .before) (bidden H w a) same (status r) (λ h. bidden-calm (placed F lt) h w a fits) (move .before)
 
     -- to 13
@@ -119,7 +120,7 @@ module _ {l : List ℕ} {t : Tally} (G : Good l t) (w : List ℕ) (a : Action) (
     rebid-kept e S answer A =
         let E = own-agrees G a (P .reference .0) (P .reference .1) w A later in
         let m = spanned G a (P .reference .0) (P .reference .1) in
-        readied-good G a (P .reference .0) (P .reference .1) w A later five (move .before .0) Y (λ z. omega (arith, z, e), λ z. omega (arith, z, e)) S
+        readied-good G a (P .reference .0) (P .reference .1) w A later five (move .before .0) Y (λ z. omega (arith, z, e), λ z. omega (arith, z, e)) (S .sound)
         (λ f. bidden-agrees E m a w answer k o (Q .profile) (a .status) f (bid-unsettled (a .status) (inl e)))
 
     bid-kept : Kept (bidAfter H l w a)
@@ -140,7 +141,7 @@ module _ {l : List ℕ} {t : Tally} (G : Good l t) (w : List ℕ) (a : Action) (
       let now : status (row H (onRow H n (setStatus (a .status)) l) n) ≡ a .status = ap status (L .own) ∙ set-status r (a .status) H (s .long) in
       let after : answer .after ≡ a .status = A .after ∙ now in
       let is14 = withdraws (move .after) (no-bid a o) in
-      stepped-good G a (P .reference .0) (P .reference .1) w A later S L (status-agrees E m a w answer (a .status) after (bid-unsettled (a .status) (inr is14)) (inr o) (inl (λ z. omega (arith, z, k))))
+      stepped-good G a (P .reference .0) (P .reference .1) w A later (S .sound) L (status-agrees E m a w answer (a .status) after (bid-unsettled (a .status) (inr is14)) (inr o) (inl (λ z. omega (arith, z, k))))
       (λ h hlt. status-step F lt (move .before) hlt (outOf t h) (outOf (feed a w answer t) h) (redOf t h) (redOf (feed a w answer t) h) (a .status) (λ z. omega (arith, z, is14), λ z. omega (arith, z, is14))
       (record { out = λ j m. fed-quiet a w answer t (answer-counts A (P .reference .0)) later (λ z. omega (arith, z, after, is14)) (inl (λ z. move .before .0 (sym (A .before) ∙ z))) five h j m })
       (record { red = λ m. fed-red a w answer t (answer-counts A (P .reference .0)) later five h m }))
@@ -158,7 +159,7 @@ module _ {l : List ℕ} {t : Tally} (G : Good l t) (w : List ℕ) (a : Action) (
       go true o = bid-kept o
       go false o = withdrawn-kept o
 
-pub customer-good : {l : List ℕ} {t : Tally} → Good l t → (w : List ℕ) (a : Action) → CustomerPassed (hours l) l w a → SoundLedger (customerAfter (hours l) l w a)
+pub customer-good : {B : ℕ → ℕ → ℕ} {l : List ℕ} {t : Tally} → Good B l t → (w : List ℕ) (a : Action) → CustomerPassed (hours l) l w a → Left B l (customerAfter (hours l) l w a) (named a) (status (namedRow (hours l) l a)) (status (row (hours l) (customerAfter (hours l) l w a) (named a)))
     → {answer : Answer} → AnswerOf answer (a .reference) (status (namedRow (hours l) l a)) (status (row (hours l) (customerAfter (hours l) l w a) (named a)))
-    → a .kind ≡ 3 → Good (customerAfter (hours l) l w a) (feed a w answer t)
+    → a .kind ≡ 3 → Good B (customerAfter (hours l) l w a) (feed a w answer t)
 customer-good G w a P S {answer} A k = customer-kept G w a P k S answer A

@@ -373,7 +373,7 @@ pub record Opens (R H : ℕ) (l l′ : List ℕ) (r : List ℕ) : Type 0 where
   pub head : (i : ℕ) → i < headWords → i ≢ 6 → getD l′ i 0 ≡ getD l i 0
   pub more : used l′ ≡ used l + 1
 
-pub new-words-length : (a : Action) → length (newWords a) ≡ 9
+pub new-words-length : (a : Action) → length (newWords a) ≡ 12
 unfolding newWords
 new-words-length a = refl
 

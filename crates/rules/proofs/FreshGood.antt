@@ -12,8 +12,8 @@ use lib.IntN.{ℤ, pos}
 use Rattle.words.specs.Lists.{noughts}
 use Rattle.words.proofs.Laws.{and-left, and-right, noughts-length}
 use Rattle.column.specs.Step.{Fresh}
-use Rattle.column.proofs.Flow.{Inv, Shape}
 use Rattle.column.proofs.Shapes.{fresh-shape}
+use Rattle.column.proofs.Uses.{fresh-within}
 use Rattle.column.proofs.Final.{fresh-inv}
 use Rattle.rules.specs.Pick.{pick}
 use Rattle.rules.specs.Numbers.{mostRows, mostHours, mostEntity, mostWindow, endHour, entity}
@@ -23,7 +23,7 @@ use Rattle.rules.specs.Tally.{Tally, reducedSum, noEntry, noEntries}
 use Rattle.rules.proofs.SoundFacts.{SoundHead, SoundLedger}
 use Rattle.rules.proofs.View.{view, viewOf, outOf, redOf}
 use Rattle.rules.proofs.Begins.{fresh-row, fresh-column}
-use Rattle.rules.proofs.Good.{Good}
+use Rattle.rules.proofs.Good.{Ordered, Good}
 
 both : (b c : Bool) → (b && c) ≡ true → (b ≡ true) × (c ≡ true)
 both b c e = (and-left b c e, and-right b c e)
@@ -86,14 +86,13 @@ module _ (R H provider window base : ℕ) (good : goodNumbers R H provider windo
       nothing true = refl
       nothing false = refl
 
-  pub fresh-good : Good l noEntries
+  pub fresh-good : {B : ℕ → ℕ → ℕ} → Good B l noEntries
   unfolding noEntries noEntry
-  fresh-good = record {
+  fresh-good {B} = record {
     sound = fresh-sound;
     good = record {
       entries = λ n lt. absurd (omega (arith, none-used));
       others = λ r z. refl;
-      shape = λ h lt. subst (λ (J : ℕ). Shape (viewOf J h l noEntries)) (sym fresh-hours) (fresh-shape (column h));
-      inv = λ h lt. subst (λ (J : ℕ). Inv (viewOf J h l noEntries)) (sym fresh-hours) (fresh-inv (column h));
+      columns = λ h lt. subst (λ (J : ℕ). Ordered (B h) (viewOf J h l noEntries)) (sym fresh-hours) (record { shape = fresh-shape (column h); inv = fresh-inv (column h); within = fresh-within (column h) });
     };
   }

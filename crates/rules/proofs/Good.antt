@@ -6,6 +6,8 @@ use mathlib.Core.List.{List, []}
 use Prim.Native.Nat.{ℕ, suc, _≤_, _<_}
 use lib.ListN.{getD}
 use Rattle.words.specs.Lists.{zeros}
+use Rattle.column.specs.Column.{Col}
+use Rattle.column.specs.Use.{Within}
 use Rattle.column.proofs.Flow.{Inv, Shape}
 use Rattle.rules.specs.Pick.{pick, _among_}
 use Rattle.rules.specs.Numbers.{grantedPart, grantedGiven}
@@ -27,13 +29,18 @@ pub record Agrees (H : ℕ) (r : List ℕ) (e : Entry) : Type 0 where
   pub ungiven : has grantedGiven r ≡ false → (h : ℕ) → h < H → getD r (hourAt H grantedPart h) 0 ≡ 0
   pub settled : (status r ≡ 10) ⊎ ((status r ≡ 11) ⊎ (status r ≡ 13)) → has grantedGiven r ≡ true
 
--- of the rows at H hours
-pub record GoodAt (H : ℕ) (l : List ℕ) (t : Tally) : Type 0 where
+-- a column in order: it balances, and use is within what is posted, B x for path x
+pub record Ordered (B : ℕ → ℕ) (S : Col) : Type 0 where
+  pub shape : Shape S
+  pub inv : Inv S
+  pub within : Within B S
+
+-- of the rows at H hours; B h x is what is posted in hour h for path x
+pub record GoodAt (B : ℕ → ℕ → ℕ) (H : ℕ) (l : List ℕ) (t : Tally) : Type 0 where
   pub entries : (n : ℕ) → n < used l → Agrees H (row H l n) (t (suc n))
   pub others : (r : ℕ) → (r ≡ 0) ⊎ (used l < r) → t r .reqtype ≡ 0
-  pub shape : (h : ℕ) → h < H → Shape (viewOf H h l t)
-  pub inv : (h : ℕ) → h < H → Inv (viewOf H h l t)
+  pub columns : (h : ℕ) → h < H → Ordered (B h) (viewOf H h l t)
 
-pub record Good (l : List ℕ) (t : Tally) : Type 0 where
+pub record Good (B : ℕ → ℕ → ℕ) (l : List ℕ) (t : Tally) : Type 0 where
   pub sound : SoundLedger l
-  pub good : GoodAt (hours l) l t
+  pub good : GoodAt B (hours l) l t

@@ -8,9 +8,9 @@ use native.Mathlib.Omega.{arith}
 use lib.Dec.{lit<}
 use Rattle.column.specs.Column.{Col}
 use Rattle.column.specs.Step.{Step}
-use Rattle.column.proofs.Flow.{Inv, Shape}
 use Rattle.column.proofs.Kept.{step-kept}
 use Rattle.column.proofs.Shapes.{step-shape}
+use Rattle.column.proofs.Uses.{step-within}
 use Rattle.rules.specs.Layout.{rows, hours, used, row}
 use Rattle.rules.specs.Tally.{Tally}
 use Rattle.rules.proofs.Rows.{row-length}
@@ -18,24 +18,20 @@ use Rattle.rules.proofs.Spans.{Spanned}
 use Rattle.rules.proofs.SoundFacts.{SoundLedger, sized}
 use Rattle.rules.proofs.View.{viewOf}
 use Rattle.rules.proofs.Leaves.{Kin, Leaves}
-use Rattle.rules.proofs.Good.{Agrees, GoodAt, Good}
+use Rattle.rules.proofs.Good.{Agrees, Ordered, GoodAt, Good}
 use Rattle.rules.proofs.TallyLaws.{Like}
 use Rattle.rules.proofs.Entries.{agrees-kin, agrees-like, words-spanned}
 
--- a column that is in order, and a step of it
-pub record Ordered (S : Col) : Type 0 where
-  pub shape : Shape S
-  pub inv : Inv S
+-- a step of a column that is in order
+pub stepped : {B : ℕ → ℕ} {S S′ : Col} → Step B S S′ → Ordered B S → Ordered B S′
+stepped s o = record { shape = step-shape s (o .shape); inv = step-kept s (o .shape) (o .inv); within = step-within s (o .shape) (o .within) }
 
-pub stepped : {S S′ : Col} → Step S S′ → Ordered S → Ordered S′
-stepped s o = record { shape = step-shape s (o .shape); inv = step-kept s (o .shape) (o .inv) }
+pub ordered : {B : ℕ → ℕ → ℕ} {l : List ℕ} {t : Tally} → Good B l t → (h : ℕ) → h < hours l → Ordered (B h) (viewOf (hours l) h l t)
+ordered G h lt = G .good .columns h lt
 
-pub ordered : {l : List ℕ} {t : Tally} → Good l t → (h : ℕ) → h < hours l → Ordered (viewOf (hours l) h l t)
-ordered G h lt = record { shape = G .good .shape h lt; inv = G .good .inv h lt }
-
-module _ {l l′ : List ℕ} {t t′ : Tally} {n : ℕ} {r : List ℕ} (G : Good l t) (lt : n < used l) (S : SoundLedger l′) (L : Leaves (rows l) (hours l) l l′ n r)
+module _ {B : ℕ → ℕ → ℕ} {l l′ : List ℕ} {t t′ : Tally} {n : ℕ} {r : List ℕ} (G : Good B l t) (lt : n < used l) (S : SoundLedger l′) (L : Leaves (rows l) (hours l) l l′ n r)
     (A : Agrees (hours l) r (t′ (suc n))) (F : (q : ℕ) → q ≢ suc n → Like (t′ q) (t q))
-    (K : (h : ℕ) → h < hours l → Ordered (viewOf (hours l) h l′ t′)) where
+    (K : (h : ℕ) → h < hours l → Ordered (B h) (viewOf (hours l) h l′ t′)) where
   same-used : used l′ ≡ used l
   same-used = L .head 6 (lit< tt)
 
@@ -49,14 +45,13 @@ module _ {l l′ : List ℕ} {t t′ : Tally} {n : ℕ} {r : List ℕ} (G : Good
       go (yes e) = subst (λ (i : ℕ). Agrees (hours l) (row (hours l) l′ i) (t′ (suc i))) (sym e) (subst (λ (q : List ℕ). Agrees (hours l) q (t′ (suc n))) (sym (L .own)) A)
       go (no ne) = agrees-like (F (suc m) (λ e. ne (omega (arith, e)))) (agrees-kin (L .kin m ne (omega (arith, G .sound .head .used))) (spanned m mlt) (G .good .entries m mlt))
 
-  pub good-leaves : Good l′ t′
+  pub good-leaves : Good B l′ t′
   good-leaves = record {
     sound = S;
-    good = subst (λ (H : ℕ). GoodAt H l′ t′) (sym (L .head 1 (lit< tt))) (record {
+    good = subst (λ (H : ℕ). GoodAt B H l′ t′) (sym (L .head 1 (lit< tt))) (record {
       entries = λ m mlt. entry m (omega (arith, same-used));
       others = λ q z. F q (λ e. apart q e z) .reqtype ∙ G .good .others q (⊎-elim (λ u. inl u) (λ u. inr (omega (arith, u, same-used))) z);
-      shape = λ h hlt. K h hlt .shape;
-      inv = λ h hlt. K h hlt .inv;
+      columns = K;
     });
   }
     where

@@ -55,6 +55,7 @@ words-same {H} {r} {q} e w = record {
   bid = omega (arith, e 8 (lit< tt), w .bid);
   offer = omega (arith, e 9 (lit< tt), w .offer);
   limit = omega (arith, e 10 (lit< tt), w .limit);
+  path = (omega (arith, e 11 (lit< tt), w .path), omega (arith, e 11 (lit< tt), w .path));
   rest = λ k least most. e k most ∙ w .rest k least most;
 }
 
@@ -244,7 +245,8 @@ module _ {H : ℕ} {q : List ℕ} (long : length q ≡ rowSize H) (w : SoundWord
     bid = word-or (λ x. x ≤ mostPrice) 8 (w .bid) (s .bid);
     offer = word-or (λ x. x ≤ mostPrice) 9 (w .offer) (s .offer);
     limit = word-or (λ x. x < endLimit) 10 (w .limit) (s .limit);
-    rest = λ j least most. word-kept j (inr least) ∙ w .rest j least most;
+    path = rw (word-kept 11 (inr (omega arith))) (w .path);
+    rest = λ j least most. word-kept j (inr (omega (arith, least))) ∙ w .rest j least most;
   }
 
 module _ {H : ℕ} {r q : List ℕ} (o : Same H r q) {k v : ℕ} (s : Stores k v) where

@@ -11,6 +11,7 @@ pub mod Turned
 pub mod Leaves
 pub mod Effects
 pub mod Passed
+pub mod Posts
 pub mod Spans
 pub mod Forces
 pub mod Placed
@@ -28,6 +29,9 @@ pub mod Before
 pub mod TallyLaws
 pub mod Shown
 pub mod Entries
+pub mod Tests
+pub mod After
+pub mod OverPaths
 pub mod Keeping
 pub mod Confirmed
 pub mod Readying
@@ -37,9 +41,11 @@ pub mod ProviderGood
 pub mod SellerGood
 pub mod CustomerGood
 pub mod SubmitGood
+pub mod KindPaths
 pub mod FreshGood
 pub mod Balanced
 pub mod Lists
 pub mod Batches
 pub mod Demand
 pub mod Day
+pub mod Limited

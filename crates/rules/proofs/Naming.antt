@@ -34,6 +34,7 @@ use Rattle.rules.proofs.Keeping.{stepped}
 use Rattle.rules.proofs.TallyLaws.{entryAfter, fed-red, fed-quiet}
 use Rattle.rules.proofs.Entries.{words-spanned}
 use Rattle.rules.proofs.Good.{Agrees, Good}
+use Rattle.rules.proofs.Tests.{Left, takes-confirmed}
 use Rattle.rules.proofs.Answers.{AnswerOf, answer-counts}
 use Rattle.rules.proofs.Confirmed.{Ready, confirmedRow, step-good, follow-good, confirm-good}
 
@@ -64,7 +65,7 @@ either-agrees {H} mw r {e} p = go (eqb (reqtype r) RELINQUISH)
     go true = p .1
     go false = p .0
 
-module _ {l : List ℕ} {t : Tally} (G : Good l t) (a : Action) (low : 1 ≤ a .reference) (high : a .reference ≤ used l) where
+module _ {B : ℕ → ℕ → ℕ} {l : List ℕ} {t : Tally} (G : Good B l t) (a : Action) (low : 1 ≤ a .reference) (high : a .reference ≤ used l) where
   pub is-used : named a < used l
   is-used = omega (arith, low, high)
 
@@ -83,19 +84,21 @@ module _ {l : List ℕ} {t : Tally} (G : Good l t) (a : Action) (low : 1 ≤ a .
 
     -- one step of each hour's column
     pub stepped-good : {l′ r : List ℕ} → SoundLedger l′ → Leaves (rows l) (hours l) l l′ (named a) r → Agrees (hours l) r (entryAfter a w answer t)
-        → ((h : ℕ) → h < hours l → Step (viewOf (hours l) h l t) (view (hours l) h l′ (outOf (feed a w answer t) h) (redOf (feed a w answer t) h))) → Good l′ (feed a w answer t)
+        → ((h : ℕ) → h < hours l → Step (B h) (viewOf (hours l) h l t) (view (hours l) h l′ (outOf (feed a w answer t) h) (redOf (feed a w answer t) h))) → Good B l′ (feed a w answer t)
     stepped-good = step-good G is-used a w answer (answer-counts A low) later is-reference
 
     -- a confirmation
-    pub confirmed-good : a .kind ≢ 5 → old ≢ CONFIRMED → new ≡ CONFIRMED → {l1 r1 : List ℕ} → Ready l l1 t (named a) r1 → (mw : List ℕ) → length mw ≡ spanHours r1
-        → unconfirmed (hours l) l1 (named a) ≡ false → short (hours l) l1 (named a) mw ≡ false → SoundLedger (confirm (hours l) (named a) mw l1)
-        → Agrees (hours l) (confirmedRow (hours l) mw r1) (entryAfter a w answer t) → Good (confirm (hours l) (named a) mw l1) (feed a w answer t)
-    confirmed-good five before after = confirm-good G is-used a w answer (answer-counts A low) later is-reference five (λ e. before (sym (A .before) ∙ e)) (A .after ∙ after)
+    pub confirmed-good : a .kind ≢ 5 → old ≢ CONFIRMED → new ≡ CONFIRMED → {l1 r1 : List ℕ} → Ready B l l1 t (named a) r1 → (mw : List ℕ) → length mw ≡ spanHours r1
+        → unconfirmed (hours l) l1 (named a) ≡ false → short (hours l) l1 (named a) mw ≡ false → Left B l (confirm (hours l) (named a) mw l1) (named a) old new
+        → Agrees (hours l) (confirmedRow (hours l) mw r1) (entryAfter a w answer t) → Good B (confirm (hours l) (named a) mw l1) (feed a w answer t)
+    confirmed-good five before after Y mw long c9 c14 S =
+        confirm-good G is-used a w answer (answer-counts A low) later is-reference five (λ e. before (sym (A .before) ∙ e)) (A .after ∙ after) Y mw long c9 c14 (S .sound)
+        (λ h hlt. S .tested (takes-confirmed old new before after) h hlt _ _ _ _)
 
 -- the row that is confirmed from a ledger that is ready is CONFIRMED
-pub ready-status : {l l1 : List ℕ} {t : Tally} (G : Good l t) {n : ℕ} → n < used l → {r1 : List ℕ} → Ready l l1 t n r1 → (mw : List ℕ) → length mw ≡ spanHours r1 → Room (hours l) (start r1) mw r1
+pub ready-status : {B : ℕ → ℕ → ℕ} {l l1 : List ℕ} {t : Tally} (G : Good B l t) {n : ℕ} → n < used l → {r1 : List ℕ} → Ready B l l1 t n r1 → (mw : List ℕ) → length mw ≡ spanHours r1 → Room (hours l) (start r1) mw r1
     → status (row (hours l) (confirm (hours l) n mw l1) n) ≡ CONFIRMED
-ready-status {l} {l1} G {n} lt {r1} Y mw long room =
+ready-status {B} {l} {l1} G {n} lt {r1} Y mw long room =
     let hours-1 : hours l1 ≡ hours l = Y .leaves .head 1 (lit< tt) in
     let used-1 : n < used l1 = omega (arith, Y .leaves .head 6 (lit< tt), lt) in
     let own : row (hours l) (confirm (hours l) n mw l1) n ≡ confirmedRow (hours l) mw (row (hours l) l1 n) =
@@ -103,11 +106,11 @@ ready-status {l} {l1} G {n} lt {r1} Y mw long room =
     ap status own ∙ ap (λ (r : List ℕ). status (confirmedRow (hours l) mw r)) (Y .leaves .own) ∙ confirmed-status room
 
 -- a status is set in a ledger that is ready, and the row stays neither CONFIRMED nor DISPLACED
-pub readied-good : {l : List ℕ} {t : Tally} (G : Good l t) (a : Action) (low : 1 ≤ a .reference) (high : a .reference ≤ used l) (w : List ℕ) {l1 r1 : List ℕ} {answer : Answer} {old : ℕ} {s : ℕ}
+pub readied-good : {B : ℕ → ℕ → ℕ} {l : List ℕ} {t : Tally} (G : Good B l t) (a : Action) (low : 1 ≤ a .reference) (high : a .reference ≤ used l) (w : List ℕ) {l1 r1 : List ℕ} {answer : Answer} {old : ℕ} {s : ℕ}
     → AnswerOf answer (a .reference) old (status (row (hours l) (onRow (hours l) (named a) (setStatus s) l1) (named a))) → a .kind ≢ 1 → a .kind ≢ 5 → old ≢ CONFIRMED
-    → Ready l l1 t (named a) r1 → Off s → SoundLedger (onRow (hours l) (named a) (setStatus s) l1)
-    → (answer .after ≡ s → Agrees (hours l) (setStatus s r1) (entryAfter a w answer t)) → Good (onRow (hours l) (named a) (setStatus s) l1) (feed a w answer t)
-readied-good {l} {t} G a low high w {l1} {r1} {answer} {old} {s} A later five before Y off S E =
+    → Ready B l l1 t (named a) r1 → Off s → SoundLedger (onRow (hours l) (named a) (setStatus s) l1)
+    → (answer .after ≡ s → Agrees (hours l) (setStatus s r1) (entryAfter a w answer t)) → Good B (onRow (hours l) (named a) (setStatus s) l1) (feed a w answer t)
+readied-good {B} {l} {t} G a low high w {l1} {r1} {answer} {old} {s} A later five before Y off S E =
     let lt = is-used G a low high in
     let hours-1 : hours l1 ≡ hours l = Y .leaves .head 1 (lit< tt) in
     let used-1 : named a < used l1 = omega (arith, Y .leaves .head 6 (lit< tt), lt) in

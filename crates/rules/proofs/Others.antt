@@ -15,9 +15,10 @@ use Rattle.rules.specs.Numbers.{grantedPart, availablePart, displacedPar
 use Rattle.rules.specs.Layout.{hours, used, row, onRow, reqtype, status, related, start, relatedRow, spanHours, hoursOf, span, granted, available, standing}
 use Rattle.rules.specs.Megawatts.{takeFrom, returnsTo, giveBack, displacedRow, displace, annulledRow, annul, reduce}
 use Rattle.column.specs.Column.{share}
+use Rattle.column.specs.Use.{Tested}
 use Rattle.column.specs.Step.{OutStays, RedStays, AnnulTop, AnnulChild, Displace, Reduce, Step, annul-top, annul-child, displace as displacing, reduce as reducing}
 use Rattle.rules.proofs.Seen.{Seen, at, seen-self, seen-set, seen-add, seen-clear}
-use Rattle.rules.proofs.Writes.{words, megawatts, seen-taken, seen-given, covered-hour, returned, returned-granted, word-of, hour-of}
+use Rattle.rules.proofs.Writes.{words, megawatts, seen-taken, seen-given, covered-hour, returned, returned-available, returned-granted, word-of, hour-of}
 use Rattle.rules.proofs.Turned.{Turned, turned, kept-word, still}
 use Rattle.rules.proofs.View.{view}
 use Rattle.rules.proofs.Formed.{Formed}
@@ -27,14 +28,14 @@ use Rattle.rules.proofs.Placed.{Placed, placed, own-long, above-row, ro
 -- ---- annulling, by the row's type
 module _ (H n : ℕ) (l : List ℕ) where
   -- what a row of types 3 to 7 gives back stands in the ledger
-  abbrev returnedTo : List ℕ
+  abbrev pub returnedTo : List ℕ
   returnedTo = onRow H (relatedRow H l n) (giveBack H (start (row H l n)) (granted H (row H l n))) l
 
-  is-annul-top : 1 ≤ reqtype (row H l n) → reqtype (row H l n) ≤ 2 → onRow H n (annulledRow H) l ≡ annul H n l
+  pub is-annul-top : 1 ≤ reqtype (row H l n) → reqtype (row H l n) ≤ 2 → onRow H n (annulledRow H) l ≡ annul H n l
   unfolding annul
   is-annul-top a b = sym (ap (λ (x : Bool). onRow H n (annulledRow H) (pick (not x) returnedTo l)) (original-type (reqtype (row H l n)) a b))
 
-  is-annul-child : 3 ≤ reqtype (row H l n) → onRow H n (annulledRow H) returnedTo ≡ annul H n l
+  pub is-annul-child : 3 ≤ reqtype (row H l n) → onRow H n (annulledRow H) returnedTo ≡ annul H n l
   unfolding annul
   is-annul-child t = sym (ap (λ (x : Bool). onRow H n (annulledRow H) (pick (not x) returnedTo l)) (derived-type (reqtype (row H l n)) t))
 
@@ -106,7 +107,7 @@ module _ {R H : ℕ} {l : List ℕ} {n : ℕ} (o : Placed R H l n) {h : ℕ} (hl
         let K = seen-taken hlt (room-for o long (o .own)) in
         let T = reduced mw long in
         record {
-          keeps = record { used = T .head 6 (lit< tt); ty = kept-word T refl 0 (K .field 0 (lit< tt)); ref = kept-word T refl 4 (K .field 4 (lit< tt)) };
+          keeps = record { used = T .head 6 (lit< tt); ty = kept-word T refl 0 (K .field 0 (lit< tt)); ref = kept-word T refl 4 (K .field 4 (lit< tt)); path = kept-word T refl 11 (K .field 11 (lit< tt)) };
           type = type;
           before = before;
           after = word-of (T .own) K 1 (lit< tt) ∙ before;
@@ -127,7 +128,7 @@ module _ {R H : ℕ} {l : List ℕ} {n : ℕ} (o : Placed R H l n) {h : ℕ} (hl
         let K = displaces in
         let T = displaced-turned in
         record {
-          keeps = record { used = T .head 6 (lit< tt); ty = kept-word T refl 0 (K .field 0 (lit< tt)); ref = kept-word T refl 4 (K .field 4 (lit< tt)) };
+          keeps = record { used = T .head 6 (lit< tt); ty = kept-word T refl 0 (K .field 0 (lit< tt)); ref = kept-word T refl 4 (K .field 4 (lit< tt)); path = kept-word T refl 11 (K .field 11 (lit< tt)) };
           type = type;
           before = before;
           after = word-of (T .own) K 1 (lit< tt);
@@ -140,7 +141,7 @@ module _ {R H : ℕ} {l : List ℕ} {n : ℕ} (o : Placed R H l n) {h : ℕ} (hl
         }
 
     module _ (whole : equal (available H (row H l n)) (granted H (row H l n)) ≡ true) where
-      annul-top-of : reqtype (row H l n) ≤ 2
+      pub annul-top-of : reqtype (row H l n) ≤ 2
           → OutStays (view H h l out red) (view H h (onRow H n (annulledRow H) l) out′ red′)
           → RedStays (view H h l out red) (view H h (onRow H n (annulledRow H) l) out′ red′)
           → AnnulTop (view H h l out red) (view H h (onRow H n (annulledRow H) l) out′ red′) n
@@ -149,7 +150,7 @@ module _ {R H : ℕ} {l : List ℕ} {n : ℕ} (o : Placed R H l n) {h : ℕ} (hl
           let T = annulled-turned in
           let E : status (row H (onRow H n (annulledRow H) l) n) ≡ 16 = word-of (T .own) K 1 (lit< tt) in
           record {
-            keeps = record { used = T .head 6 (lit< tt); ty = kept-word T refl 0 (K .field 0 (lit< tt)); ref = kept-word T refl 4 (K .field 4 (lit< tt)) };
+            keeps = record { used = T .head 6 (lit< tt); ty = kept-word T refl 0 (K .field 0 (lit< tt)); ref = kept-word T refl 4 (K .field 4 (lit< tt)); path = kept-word T refl 11 (K .field 11 (lit< tt)) };
             type = t;
             in-use = o .in-use;
             before = before;
@@ -162,7 +163,7 @@ module _ {R H : ℕ} {l : List ℕ} {n : ℕ} (o : Placed R H l n) {h : ℕ} (hl
             reds = reds;
           }
 
-      annul-child-of : (t : 3 ≤ reqtype (row H l n))
+      pub annul-child-of : (t : 3 ≤ reqtype (row H l n))
           → ((k m : ℕ) → out′ k m ≡ out k m +ℤ negℤ (pos (share k (reqtype (row H l n)) (related (row H l n)) m (megawatts H h (row H l n) grantedPart))))
           → RedStays (view H h l out red) (view H h (onRow H n (annulledRow H) (returnedTo H n l)) out′ red′)
           → AnnulChild (view H h l out red) (view H h (onRow H n (annulledRow H) (returnedTo H n l)) out′ red′) n (relatedRow H l n)
@@ -179,6 +180,7 @@ module _ {R H : ℕ} {l : List ℕ} {n : ℕ} (o : Placed R H l n) {h : ℕ} (hl
               used = T2 .head 6 (lit< tt) ∙ T1 .head 6 (lit< tt);
               ty = λ m. kept-word T2 (own-kept t) 0 (K .field 0 (lit< tt)) m ∙ kept-word T1 refl 0 (G .field 0 (lit< tt)) m;
               ref = λ m. kept-word T2 (own-kept t) 4 (K .field 4 (lit< tt)) m ∙ kept-word T1 refl 4 (G .field 4 (lit< tt)) m;
+              path = λ m. kept-word T2 (own-kept t) 11 (K .field 11 (lit< tt)) m ∙ kept-word T1 refl 11 (G .field 11 (lit< tt)) m;
             };
             in-use = o .in-use;
             parent = o .above t;
@@ -189,6 +191,7 @@ module _ {R H : ℕ} {l : List ℕ} {n : ℕ} (o : Placed R H l n) {h : ℕ} (hl
             a = hour-of (T2 .own) K availablePart (lit< tt);
             d = hour-of (T2 .own) K displacedPart (lit< tt);
             p-st = word-of P G 1 (lit< tt);
+            p-a = λ e. hour-of P G availablePart (lit< tt) ∙ returned-available (megawatts H h (row H l (relatedRow H l n))) (standing s (granted H (row H l n)) h) (row H l (relatedRow H l n)) e ∙ ap (λ (z : ℕ). megawatts H h (row H l (relatedRow H l n)) availablePart + z) (span-standing o hlt grantedPart (lit< tt));
             p-g = hour-of P G grantedPart (lit< tt) ∙ returned-granted (megawatts H h (row H l (relatedRow H l n))) _ (row H l (relatedRow H l n));
             p-ad = omega (arith, hour-of P G availablePart (lit< tt), hour-of P G displacedPart (lit< tt), span-standing o hlt grantedPart (lit< tt), returned (megawatts H h (row H l (relatedRow H l n))) (standing s (granted H (row H l n)) h) (row H l (relatedRow H l n)));
             rest = λ m e e′. still H h l l2 out out′ red red′ m (T2 .other m e ∙ T1 .other m e′);
@@ -197,41 +200,43 @@ module _ {R H : ℕ} {l : List ℕ} {n : ℕ} (o : Placed R H l n) {h : ℕ} (hl
           }
 
     -- annulling is a step of every hour's column, whatever the type
-    annul-of : equal (available H (row H l n)) (granted H (row H l n)) ≡ true
+    annul-of : {B : ℕ → ℕ} → equal (available H (row H l n)) (granted H (row H l n)) ≡ true
         → (reqtype (row H l n) ≤ 2 → OutStays (view H h l out red) (view H h (annul H n l) out′ red′))
         → (3 ≤ reqtype (row H l n) → (k m : ℕ) → out′ k m ≡ out k m +ℤ negℤ (pos (share k (reqtype (row H l n)) (related (row H l n)) m (megawatts H h (row H l n) grantedPart))))
         → RedStays (view H h l out red) (view H h (annul H n l) out′ red′)
-        → Step (view H h l out red) (view H h (annul H n l) out′ red′)
-    annul-of whole tops children = go (lt-or-le (reqtype (row H l n)) 3) tops
+        → Tested B (view H h l out red) (view H h (annul H n l) out′ red′) n
+        → Step B (view H h l out red) (view H h (annul H n l) out′ red′)
+    annul-of {B} whole tops children = go (lt-or-le (reqtype (row H l n)) 3) tops
       where
         Goal : List ℕ → Type 0
-        Goal m = (reqtype (row H l n) ≤ 2 → OutStays (view H h l out red) (view H h m out′ red′)) → RedStays (view H h l out red) (view H h m out′ red′) → Step (view H h l out red) (view H h m out′ red′)
+        Goal m = (reqtype (row H l n) ≤ 2 → OutStays (view H h l out red) (view H h m out′ red′)) → RedStays (view H h l out red) (view H h m out′ red′) → Tested B (view H h l out red) (view H h m out′ red′) n → Step B (view H h l out red) (view H h m out′ red′)
 
         go : (reqtype (row H l n) < 3) ⊎ (3 ≤ reqtype (row H l n)) → Goal (annul H n l)
         go (inl t) =
             let low : reqtype (row H l n) ≤ 2 = omega (arith, t) in
-            subst Goal (is-annul-top H n l (o .type-least) low) (λ a b. annul-top n (annul-top-of whole low (a low) b))
+            subst Goal (is-annul-top H n l (o .type-least) low) (λ a b _. annul-top n (annul-top-of whole low (a low) b))
         go (inr t) =
-            subst Goal (is-annul-child H n l t) (λ a b. annul-child n (relatedRow H l n) (annul-child-of whole t (children t) b))
+            subst Goal (is-annul-child H n l t) (λ a b c. annul-child n (relatedRow H l n) (annul-child-of whole t (children t) b) c)
 
 -- ---- of a formed ledger
-module _ {l : List ℕ} {n : ℕ} (f : Formed l) (lt : n < used l) (type : reqtype (row (hours l) l n) ≢ RELINQUISH) (before : status (row (hours l) l n) ≡ 13) {h : ℕ} (hlt : h < hours l) (out out′ : ℕ → ℕ → ℤ) (red red′ : ℕ → ℤ) where
+module _ {l : List ℕ} {n : ℕ} (f : Formed l) (lt : n < used l) (type : reqtype (row (hours l) l n) ≢ RELINQUISH) (before : status (row (hours l) l n) ≡ 13) {h : ℕ} (hlt : h < hours l) (out out′ : ℕ → ℕ → ℤ) (red red′ : ℕ → ℤ) {B : ℕ → ℕ} where
   pub reduce-step : (mw : List ℕ) → length mw ≡ spanHours (row (hours l) l n) → covered mw (available (hours l) (row (hours l) l n)) ≡ true
       → OutStays (view (hours l) h l out red) (view (hours l) h (reduce (hours l) n mw l) out′ red′)
       → red′ n ≡ red n +ℤ pos (standing (start (row (hours l) l n)) mw h)
       → ((m : ℕ) → m ≢ n → red′ m ≡ red m)
-      → Step (view (hours l) h l out red) (view (hours l) h (reduce (hours l) n mw l) out′ red′)
+      → Step B (view (hours l) h l out red) (view (hours l) h (reduce (hours l) n mw l) out′ red′)
   reduce-step mw long ok outs one others =
       reducing n (standing (start (row (hours l) l n)) mw h) (reduce-of (placed f lt) hlt out out′ red red′ type before mw long ok outs one others)
 
   pub displace-step : OutStays (view (hours l) h l out red) (view (hours l) h (displace (hours l) n l) out′ red′)
       → RedStays (view (hours l) h l out red) (view (hours l) h (displace (hours l) n l) out′ red′)
-      → Step (view (hours l) h l out red) (view (hours l) h (displace (hours l) n l) out′ red′)
+      → Step B (view (hours l) h l out red) (view (hours l) h (displace (hours l) n l) out′ red′)
   displace-step outs reds = displacing n (displace-of (placed f lt) hlt out out′ red red′ type before outs reds)
 
   pub annul-step : equal (available (hours l) (row (hours l) l n)) (granted (hours l) (row (hours l) l n)) ≡ true
       → (reqtype (row (hours l) l n) ≤ 2 → OutStays (view (hours l) h l out red) (view (hours l) h (annul (hours l) n l) out′ red′))
       → (3 ≤ reqtype (row (hours l) l n) → (k m : ℕ) → out′ k m ≡ out k m +ℤ negℤ (pos (share k (reqtype (row (hours l) l n)) (related (row (hours l) l n)) m (megawatts (hours l) h (row (hours l) l n) grantedPart))))
       → RedStays (view (hours l) h l out red) (view (hours l) h (annul (hours l) n l) out′ red′)
-      → Step (view (hours l) h l out red) (view (hours l) h (annul (hours l) n l) out′ red′)
+      → Tested B (view (hours l) h l out red) (view (hours l) h (annul (hours l) n l) out′ red′) n
+      → Step B (view (hours l) h l out red) (view (hours l) h (annul (hours l) n l) out′ red′)
   annul-step = annul-of (placed f lt) hlt out out′ red red′ type before

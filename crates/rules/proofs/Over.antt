@@ -384,6 +384,10 @@ module _ {l : List ℕ} (s : SoundLedger l) where
       → carriesOver (hours l) (submitAfter (hours l) l w a) ≡ false
   over-submitting lt w a starts stops e = submitting (carried s) lt (s .unused (used l) (omega arith)) w a stops (omega (arith, starts, stops, e))
 
+  -- a posting leaves the ledger as it is
+  pub over-posting : carriesOver (hours l) l ≡ false
+  over-posting = not-carries (hours l) l (λ m k. carried s .bounded m k)
+
   pub over-clock : (a : Action) → carriesOver (hours l) (clockAfter l a) ≡ false
   over-clock a = clocking (carried s) a
 

@@ -5,27 +5,28 @@ use mathlib.Core.Logic.{_≢_, _⊎_, ⊎-elim, inl, inr}
 use mathlib.Core.List.{List, [], _∷_}
 use Prim.Native.Nat.{ℕ, suc, _+_, _-_, _≤_, _<_}
 use native.Mathlib.Omega.{arith}
-use lib.Dec.{eqb, leb}
+use lib.Dec.{eqb, leb, ltb}
 use lib.ListN.{length}
 use borrow.Author.Tests.{leb-true, ltb-true, ltb-false, leb-false, eqb-true, eqb-false, eq-eqb, ne-eqb, not-true, not-false}
 use Rattle.words.specs.Lists.{within, zeros, covered, equal, every}
 use Rattle.words.proofs.Laws.{and-left, and-right, part-length}
 use Rattle.column.specs.Column.{Off}
 use Rattle.rules.specs.Pick.{pick, _onlyIf_, _among_}
-use Rattle.rules.specs.Numbers.{mostType, mostStatus, mostEntity, mostPrice, mostMegawatts, endSecond, entity, preconfirmed, coordinated, approved, ACCEPTED, CR-ACCEPTED, CONFIRMED, ANNULLED, NONFIRM-REDIRECT, RELINQUISH}
+use Rattle.rules.specs.Numbers.{mostType, mostStatus, mostEntity, mostPrice, mostMegawatts, mostPath, endSecond, entity, preconfirmed, coordinated, approved, ACCEPTED, CR-ACCEPTED, CONFIRMED, ANNULLED, NONFIRM-REDIRECT, RELINQUISH}
 use Rattle.rules.specs.Layout.{rows, clock, used, issued, rowOf, row, reqtype, status, start, stop, spanHours, has, granted, available}
 use Rattle.rules.specs.Sound.{original, transfer, relates, inside, firm, redirect}
 use Rattle.rules.specs.Moves.{isOpen, isConfirmed, Move, opens, allowed, sellerMoves, customerMoves, sellerMay, customerMay}
 use Rattle.rules.specs.Megawatts.{inForce}
 use Rattle.rules.specs.Confirming.{unapproved, unconfirmed, short, partial, confirmNumber}
-use Rattle.rules.specs.Checks.{named, namedRow, profile, comes, badProfile, badIfComes, badPrice, noReference, notProvider, badStatus, waitsAt, waitingNumber}
-use Rattle.rules.specs.Submit.{badType, badSeller, badSpan, badFlags, goodRelated, badRelated, badParties, noRowLeft, submitNumber}
+use Rattle.rules.specs.Checks.{named, namedRow, profile, comes, badProfile, badIfComes, badWords, badSpan, unknownPath, badPrice, noReference, notProvider, badStatus, waitsAt, waitingNumber}
+use Rattle.rules.specs.Submit.{badType, badSeller, badFlags, unfitPath, badPath, goodRelated, badRelated, badParties, noRowLeft, submitNumber}
 use Rattle.rules.specs.SellerStatus.{notSeller, noSellerMove, offers, grantedAfter, unfitOffer, goesOn, fitNumber, offerNumber, annulsConfirmed, partlyUsed, sellerNumber}
 use Rattle.rules.specs.CustomerStatus.{notCustomer, noCustomerMove, bids, confirms, unfitBid, bidConfirmNumber, bidNumber, customerNumber}
 use Rattle.rules.specs.Approve.{notApprovable, approveNumber}
 use Rattle.rules.specs.Reduce.{notReducible, reducesTooMuch, reduceNumber}
 use Rattle.rules.specs.Lapse.{notLapsing, tooEarly, lapseNumber}
 use Rattle.rules.specs.Clock.{badTime, clockNumber}
+use Rattle.rules.specs.Post.{postNumber}
 use Rattle.rules.specs.declared.Action.{Action}
 use Rattle.rules.proofs.Types.{original-type, derived-type}
 
@@ -76,6 +77,27 @@ range : (a x b : ℕ) → not (leb a x && leb x b) ≡ false → (a ≤ x) × (x
 range a x b e = let w = and-both _ _ (not-false _ e) in (leb-true a x (w .0), leb-true x b (w .1))
 
 -- ---- a profile that comes
+-- which may be all 0
+pub record WordsPassed (w : List ℕ) (a : Action) (n : ℕ) : Type 0 where
+  pub fits : a .offset + a .length ≤ length w
+  pub counted : a .length ≡ n
+  pub most : within mostMegawatts (profile w a) ≡ true
+
+pub words-passed : (w : List ℕ) (a : Action) (n : ℕ) → badWords w a n ≡ false → WordsPassed w a n
+unfolding badWords
+words-passed w a n e =
+    let f = or-none _ _ e in
+    let g = or-none _ _ (f .1) in
+    record {
+      fits = ltb-false _ _ (f .0);
+      counted = eqb-true _ _ (not-false _ (g .0));
+      most = not-false _ (g .1);
+    }
+
+pub words-length : {w : List ℕ} {a : Action} {n : ℕ} → WordsPassed w a n → length (profile w a) ≡ n
+unfolding profile
+words-length {w} {a} p = part-length w (a .offset) (a .length) (p .fits) ∙ p .counted
+
 pub record ProfilePassed (w : List ℕ) (a : Action) (n : ℕ) : Type 0 where
   pub fits : a .offset + a .length ≤ length w
   pub counted : a .length ≡ n
@@ -86,14 +108,19 @@ pub profile-passed : (w : List ℕ) (a : Action) (n : ℕ) → badProfile w a n 
 unfolding badProfile
 profile-passed w a n e =
     let f = or-none _ _ e in
-    let g = or-none _ _ (f .1) in
-    let h = or-none _ _ (g .1) in
-    record {
-      fits = ltb-false _ _ (f .0);
-      counted = eqb-true _ _ (not-false _ (g .0));
-      most = not-false _ (h .0);
-      some = h .1;
-    }
+    let p = words-passed w a n (f .0) in
+    record { fits = p .fits; counted = p .counted; most = p .most; some = f .1 }
+
+-- the checks of a profile in one chain, as code makes them
+or-chain : (b c d e : Bool) → (b || (c || (d || e))) ≡ ((b || (c || d)) || e)
+or-chain true c d e = refl
+or-chain false true d e = refl
+or-chain false false d e = refl
+
+pub profile-chain : (w : List ℕ) (a : Action) (n : ℕ)
+    → (ltb (length w) (a .offset + a .length) || (not (eqb (a .length) n) || (not (within mostMegawatts (profile w a)) || zeros (profile w a)))) ≡ badProfile w a n
+unfolding badProfile badWords
+profile-chain w a n = or-chain (ltb (length w) (a .offset + a .length)) (not (eqb (a .length) n)) (not (within mostMegawatts (profile w a))) (zeros (profile w a))
 
 pub profile-length : {w : List ℕ} {a : Action} {n : ℕ} → ProfilePassed w a n → length (profile w a) ≡ n
 unfolding profile
@@ -147,6 +174,7 @@ pub record SubmitPassed (H : ℕ) (l w : List ℕ) (a : Action) : Type 0 where
   pub stops : a .stop ≤ H
   pub profile : ProfilePassed w a (a .stop - a .start)
   pub flags : a .flags ≤ 3
+  pub path : (1 ≤ a .path) × (a .path ≤ mostPath)
   pub price : a .price ≤ mostPrice
   pub original : a .reqtype ≤ 2 → a .related ≡ 0
   pub derived : 3 ≤ a .reqtype → RelatedPassed H l a
@@ -214,6 +242,14 @@ flags-passed : (a : Action) → badFlags a ≡ false → a .flags ≤ 3
 unfolding badFlags
 flags-passed a e = ltb-false _ _ (or-none _ _ e .0)
 
+path-known : (a : Action) → unknownPath a ≡ false → (1 ≤ a .path) × (a .path ≤ mostPath)
+unfolding unknownPath
+path-known a e = range 1 (a .path) mostPath e
+
+path-passed : (H : ℕ) (l : List ℕ) (a : Action) → badPath H l a ≡ false → (1 ≤ a .path) × (a .path ≤ mostPath)
+unfolding badPath
+path-passed H l a e = path-known a (or-none _ _ e .0)
+
 seller-passed : (a : Action) → badSeller a ≡ false → (1 ≤ a .seller) × (a .seller ≤ mostEntity)
 unfolding badSeller entity
 seller-passed a e = range 1 (a .seller) mostEntity e
@@ -230,7 +266,8 @@ submit-passed H l w a e =
     let h = gives-none (badSpan H a) _ _ (s .1) in
     let p = gives-none (badProfile w a (a .stop - a .start)) _ _ (h .1) in
     let f = gives-none (badFlags a) _ _ (p .1) in
-    let m = gives-none (badPrice a) _ _ (f .1) in
+    let x = gives-none (badPath H l a) _ _ (f .1) in
+    let m = gives-none (badPrice a) _ _ (x .1) in
     let r = gives-none (badRelated H l a) _ _ (m .1) in
     let q = gives-none (badParties H l a) _ _ (r .1) in
     let o = gives-none (noRowLeft l) _ _ (q .1) in
@@ -242,6 +279,7 @@ submit-passed H l w a e =
       stops = span-passed H a (h .0) .1;
       profile = profile-passed w a (a .stop - a .start) (p .0);
       flags = flags-passed a (f .0);
+      path = path-passed H l a (x .0);
       price = price-passed a (m .0);
       original = λ two. original-related H l a (r .0) (type .0) two;
       derived = λ three. derived-related H l a (r .0) three;
@@ -597,3 +635,19 @@ annuls-from a r e = let f = and-both (eqb (a .status) ANNULLED) (isConfirmed r) 
 pub annuls-open : (a : Action) (r : List ℕ) → annulsConfirmed a r ≡ false → a .status ≡ ANNULLED → status r ≢ CONFIRMED
 unfolding annulsConfirmed isConfirmed
 annuls-open a r e q = eqb-false _ _ (and-none (eqb (a .status) ANNULLED) _ e (eq-eqb _ _ q))
+
+-- ---- posting
+pub record PostPassed (H : ℕ) (w : List ℕ) (a : Action) : Type 0 where
+  pub path : (1 ≤ a .path) × (a .path ≤ mostPath)
+  pub starts : a .start < a .stop
+  pub stops : a .stop ≤ H
+  pub words : WordsPassed w a (a .stop - a .start)
+
+pub post-passed : (H : ℕ) (l w : List ℕ) (a : Action) → postNumber H l w a ≡ 0 → PostPassed H w a
+unfolding postNumber
+post-passed H l w a e =
+    let p = gives-none (notProvider l a) _ _ e in
+    let x = gives-none (unknownPath a) _ _ (p .1) in
+    let s = gives-none (badSpan H a) _ _ (x .1) in
+    let m = gives-none (badWords w a (a .stop - a .start)) _ _ (s .1) in
+    record { path = path-known a (x .0); starts = span-passed H a (s .0) .0; stops = span-passed H a (s .0) .1; words = words-passed w a (a .stop - a .start) (m .0) }

@@ -1,7 +1,7 @@
 -- The provider's actions keep what is kept: approve, reduce, lapse, clock.
 use mathlib.Core.Path.{_≡_, refl, sym, ap, subst, _∙_}
 use mathlib.Core.Logic.{_≢_, _⊎_, ⊎-elim, inl, inr}
-use mathlib.Core.Bool.{Bool, true, false}
+use mathlib.Core.Bool.{Bool, true, false, _||_}
 use mathlib.Core.List.{List}
 use Prim.Native.Nat.{ℕ, suc, _+_, _-_, _≤_, _<_}
 use native.Mathlib.Omega.{arith}
@@ -41,14 +41,15 @@ use Rattle.rules.proofs.Before.{unconfirmed-stays, short-stays}
 use Rattle.rules.proofs.Kept.{same-self, same-approved, same-status}
 use Rattle.rules.proofs.TallyLaws.{entryAfter, feed-none, fed-red, fed-quiet, fed-reduced, fed-unreduced, fed-reduced-out}
 use Rattle.rules.proofs.Entries.{force-length, status-agrees, approved-agrees, reduced-agrees, lapsed-agrees, approved-start, approved-confirms}
-use Rattle.rules.proofs.Good.{Agrees, GoodAt, Good}
-use Rattle.rules.proofs.Keeping.{Ordered, stepped, ordered}
+use Rattle.rules.proofs.Good.{Agrees, Ordered, GoodAt, Good}
+use Rattle.rules.proofs.Keeping.{stepped, ordered}
+use Rattle.rules.proofs.Tests.{Left}
 use Rattle.rules.proofs.Answers.{AnswerOf, answer-counts}
 use Rattle.rules.proofs.Readying.{ready-self, ready-on}
 use Rattle.rules.proofs.Naming.{set-status, confirmed-status, ready-status, either-agrees, is-used, spanned, room, is-reference, own-agrees, stepped-good, confirmed-good}
 
 -- ---- 6 Lapse
-module _ {l : List ℕ} {t : Tally} (G : Good l t) (w : List ℕ) (a : Action) (P : LapsePassed (hours l) l a) where
+module _ {B : ℕ → ℕ → ℕ} {l : List ℕ} {t : Tally} (G : Good B l t) (w : List ℕ) (a : Action) (P : LapsePassed (hours l) l a) where
   abbrev H : ℕ
   H = hours l
 
@@ -71,9 +72,9 @@ module _ {l : List ℕ} {t : Tally} (G : Good l t) (w : List ℕ) (a : Action) (
       go (inr (inr (inr e))) = (λ z. omega (arith, e, z), λ z. omega (arith, e, z))
 
   -- a preconfirmed 11 confirms
-  lapse-confirms : waitsAt CR-ACCEPTED (namedRow (hours l) l a) ≡ true → SoundLedger (confirm (hours l) (named a) (inForce (hours l) (namedRow (hours l) l a)) l)
+  lapse-confirms : waitsAt CR-ACCEPTED (namedRow (hours l) l a) ≡ true → Left B l (confirm (hours l) (named a) (inForce (hours l) (namedRow (hours l) l a)) l) (named a) (status (namedRow (hours l) l a)) (status (row (hours l) (confirm (hours l) (named a) (inForce (hours l) (namedRow (hours l) l a)) l) (named a)))
       → {answer : Answer} → AnswerOf answer (a .reference) (status (namedRow (hours l) l a)) (status (row (hours l) (confirm (hours l) (named a) (inForce (hours l) (namedRow (hours l) l a)) l) (named a)))
-      → a .kind ≡ 6 → Good (confirm (hours l) (named a) (inForce (hours l) (namedRow (hours l) l a)) l) (feed a w answer t)
+      → a .kind ≡ 6 → Good B (confirm (hours l) (named a) (inForce (hours l) (namedRow (hours l) l a)) l) (feed a w answer t)
   lapse-confirms q S {answer} A k =
       let C = confirm-passed H l n (inForce H r) (has approved r) (P .confirms q) in
       let later : a .kind ≢ 1 = λ z. omega (arith, z, k) in
@@ -86,9 +87,9 @@ module _ {l : List ℕ} {t : Tally} (G : Good l t) (w : List ℕ) (a : Action) (
       (either-agrees (inForce H r) r (lapsed-agrees E m a w answer (start r) refl (A .after ∙ now) k))
 
   -- the others go to 17
-  lapse-retracts : SoundLedger (onRow (hours l) (named a) (setStatus RETRACTED) l)
+  lapse-retracts : Left B l (onRow (hours l) (named a) (setStatus RETRACTED) l) (named a) (status (namedRow (hours l) l a)) (status (row (hours l) (onRow (hours l) (named a) (setStatus RETRACTED) l) (named a)))
       → {answer : Answer} → AnswerOf answer (a .reference) (status (namedRow (hours l) l a)) (status (row (hours l) (onRow (hours l) (named a) (setStatus RETRACTED) l) (named a)))
-      → a .kind ≡ 6 → Good (onRow (hours l) (named a) (setStatus RETRACTED) l) (feed a w answer t)
+      → a .kind ≡ 6 → Good B (onRow (hours l) (named a) (setStatus RETRACTED) l) (feed a w answer t)
   lapse-retracts S {answer} A k =
       let F = formed (G .sound) in
       let later : a .kind ≢ 1 = λ z. omega (arith, z, k) in
@@ -98,26 +99,26 @@ module _ {l : List ℕ} {t : Tally} (G : Good l t) (w : List ℕ) (a : Action) (
       let now : status (row H (onRow H n (setStatus RETRACTED) l) n) ≡ RETRACTED = ap status (L .own) ∙ set-status r RETRACTED H (same-status (same-self F lapse-used) (omega arith) (omega arith) .long) in
       let after : answer .after ≡ RETRACTED = A .after ∙ now in
       let five : a .kind ≢ 5 = λ z. omega (arith, z, k) in
-      stepped-good G a (P .reference .0) (P .reference .1) w A later S L
+      stepped-good G a (P .reference .0) (P .reference .1) w A later (S .sound) L
       (status-agrees E m a w answer RETRACTED after (λ z. omega (arith, z), λ z. omega (arith, z), λ z. omega (arith, z)) (inl (λ z. omega (arith, z, k))) (inl (λ z. omega (arith, z, k))))
       (λ h hlt. status-step F lapse-used lapse-off hlt (outOf t h) (outOf (feed a w answer t) h) (redOf t h) (redOf (feed a w answer t) h) RETRACTED (λ z. omega (arith, z), λ z. omega (arith, z))
       (record { out = λ k m. fed-quiet a w answer t (answer-counts A (P .reference .0)) later (λ z. omega (arith, z, after)) (inr (λ z. omega (arith, z, after))) five h k m })
       (record { red = λ m. fed-red a w answer t (answer-counts A (P .reference .0)) later five h m }))
 
-  pub lapse-good : SoundLedger (lapseAfter (hours l) l a) → {answer : Answer} → AnswerOf answer (a .reference) (status (namedRow (hours l) l a)) (status (row (hours l) (lapseAfter (hours l) l a) (named a)))
-      → a .kind ≡ 6 → Good (lapseAfter (hours l) l a) (feed a w answer t)
+  pub lapse-good : Left B l (lapseAfter (hours l) l a) (named a) (status (namedRow (hours l) l a)) (status (row (hours l) (lapseAfter (hours l) l a) (named a))) → {answer : Answer} → AnswerOf answer (a .reference) (status (namedRow (hours l) l a)) (status (row (hours l) (lapseAfter (hours l) l a) (named a)))
+      → a .kind ≡ 6 → Good B (lapseAfter (hours l) l a) (feed a w answer t)
   unfolding lapseAfter
   lapse-good S {answer} A k = go (waitsAt CR-ACCEPTED (namedRow (hours l) l a)) refl S A
     where
       next : Bool → List ℕ
       next b = pick b (confirm (hours l) (named a) (inForce (hours l) (namedRow (hours l) l a)) l) (onRow (hours l) (named a) (setStatus RETRACTED) l)
 
-      go : (b : Bool) → waitsAt CR-ACCEPTED (namedRow (hours l) l a) ≡ b → SoundLedger (next b) → AnswerOf answer (a .reference) (status (namedRow (hours l) l a)) (status (row (hours l) (next b) (named a))) → Good (next b) (feed a w answer t)
+      go : (b : Bool) → waitsAt CR-ACCEPTED (namedRow (hours l) l a) ≡ b → Left B l (next b) (named a) (status (namedRow (hours l) l a)) (status (row (hours l) (next b) (named a))) → AnswerOf answer (a .reference) (status (namedRow (hours l) l a)) (status (row (hours l) (next b) (named a))) → Good B (next b) (feed a w answer t)
       go true q s x = lapse-confirms q s x k
       go false q s x = lapse-retracts s x k
 
 -- ---- 4 Approve
-module _ {l : List ℕ} {t : Tally} (G : Good l t) (w : List ℕ) (a : Action) (P : ApprovePassed (hours l) l a) where
+module _ {B : ℕ → ℕ → ℕ} {l : List ℕ} {t : Tally} (G : Good B l t) (w : List ℕ) (a : Action) (P : ApprovePassed (hours l) l a) where
   approve-used : named a < used l
   approve-used = is-used G a (P .reference .0) (P .reference .1)
 
@@ -127,9 +128,9 @@ module _ {l : List ℕ} {t : Tally} (G : Good l t) (w : List ℕ) (a : Action) (
   abbrev raised : List ℕ
   raised = onRow (hours l) (named a) (raise approved) l
 
-  approve-confirms : waitsAt ACCEPTED (namedRow (hours l) l a) ≡ true → SoundLedger (confirm (hours l) (named a) (inForce (hours l) (namedRow (hours l) l a)) (onRow (hours l) (named a) (raise approved) l))
+  approve-confirms : waitsAt ACCEPTED (namedRow (hours l) l a) ≡ true → Left B l (confirm (hours l) (named a) (inForce (hours l) (namedRow (hours l) l a)) (onRow (hours l) (named a) (raise approved) l)) (named a) (status (namedRow (hours l) l a)) (status (row (hours l) (confirm (hours l) (named a) (inForce (hours l) (namedRow (hours l) l a)) (onRow (hours l) (named a) (raise approved) l)) (named a)))
       → {answer : Answer} → AnswerOf answer (a .reference) (status (namedRow (hours l) l a)) (status (row (hours l) (confirm (hours l) (named a) (inForce (hours l) (namedRow (hours l) l a)) (onRow (hours l) (named a) (raise approved) l)) (named a)))
-      → a .kind ≡ 4 → Good (confirm (hours l) (named a) (inForce (hours l) (namedRow (hours l) l a)) (onRow (hours l) (named a) (raise approved) l)) (feed a w answer t)
+      → a .kind ≡ 4 → Good B (confirm (hours l) (named a) (inForce (hours l) (namedRow (hours l) l a)) (onRow (hours l) (named a) (raise approved) l)) (feed a w answer t)
   approve-confirms q S {answer} A k =
       let F = formed (G .sound) in
       let mw : List ℕ = inForce (hours l) (namedRow (hours l) l a) in
@@ -147,9 +148,9 @@ module _ {l : List ℕ} {t : Tally} (G : Good l t) (w : List ℕ) (a : Action) (
       (short-stays (placed F approve-used) (raise approved) (unmoved-raise (spanned G a (P .reference .0) (P .reference .1) .long) approved) mw ∙ C .short) S
       (either-agrees mw (raise approved (namedRow (hours l) l a)) (approved-confirms E m a w answer (start (raise approved (namedRow (hours l) l a))) (approved-start E m a w answer) (A .after ∙ now) k))
 
-  approve-raises : SoundLedger (onRow (hours l) (named a) (raise approved) l)
+  approve-raises : Left B l (onRow (hours l) (named a) (raise approved) l) (named a) (status (namedRow (hours l) l a)) (status (row (hours l) (onRow (hours l) (named a) (raise approved) l) (named a)))
       → {answer : Answer} → AnswerOf answer (a .reference) (status (namedRow (hours l) l a)) (status (row (hours l) (onRow (hours l) (named a) (raise approved) l) (named a)))
-      → a .kind ≡ 4 → Good (onRow (hours l) (named a) (raise approved) l) (feed a w answer t)
+      → a .kind ≡ 4 → Good B (onRow (hours l) (named a) (raise approved) l) (feed a w answer t)
   approve-raises S {answer} A k =
       let F = formed (G .sound) in
       let later : a .kind ≢ 1 = λ z. omega (arith, z, k) in
@@ -159,29 +160,29 @@ module _ {l : List ℕ} {t : Tally} (G : Good l t) (w : List ℕ) (a : Action) (
       let L = own-leaves F approve-used (raise approved) (same-approved (same-self F approve-used) .long) in
       let now : status (row (hours l) (onRow (hours l) (named a) (raise approved) l) (named a)) ≡ status (namedRow (hours l) l a) = ap status (L .own) ∙ approved-calm (placed F approve-used) 0 .status in
       let after : answer .after ≡ status (namedRow (hours l) l a) = A .after ∙ now in
-      stepped-good G a (P .reference .0) (P .reference .1) w A later S L (approved-agrees E m a w answer after k)
+      stepped-good G a (P .reference .0) (P .reference .1) w A later (S .sound) L (approved-agrees E m a w answer after k)
       (λ h hlt. approved-step F approve-used approve-off hlt (outOf t h) (outOf (feed a w answer t) h) (redOf t h) (redOf (feed a w answer t) h)
       (record { out = λ k m. fed-quiet a w answer t (answer-counts A (P .reference .0)) later (λ z. approve-off .0 (sym after ∙ z)) (inl (λ z. approve-off .0 (sym (A .before) ∙ z))) five h k m })
       (record { red = λ m. fed-red a w answer t (answer-counts A (P .reference .0)) later five h m }))
 
-  pub approve-good : SoundLedger (approveAfter (hours l) l a) → {answer : Answer} → AnswerOf answer (a .reference) (status (namedRow (hours l) l a)) (status (row (hours l) (approveAfter (hours l) l a) (named a)))
-      → a .kind ≡ 4 → Good (approveAfter (hours l) l a) (feed a w answer t)
+  pub approve-good : Left B l (approveAfter (hours l) l a) (named a) (status (namedRow (hours l) l a)) (status (row (hours l) (approveAfter (hours l) l a) (named a))) → {answer : Answer} → AnswerOf answer (a .reference) (status (namedRow (hours l) l a)) (status (row (hours l) (approveAfter (hours l) l a) (named a)))
+      → a .kind ≡ 4 → Good B (approveAfter (hours l) l a) (feed a w answer t)
   unfolding approveAfter
   approve-good S {answer} A k = go (waitsAt ACCEPTED (namedRow (hours l) l a)) refl S A
     where
       next : Bool → List ℕ
       next b = when b (confirm (hours l) (named a) (inForce (hours l) (namedRow (hours l) l a))) (onRow (hours l) (named a) (raise approved) l)
 
-      go : (b : Bool) → waitsAt ACCEPTED (namedRow (hours l) l a) ≡ b → SoundLedger (next b) → AnswerOf answer (a .reference) (status (namedRow (hours l) l a)) (status (row (hours l) (next b) (named a))) → Good (next b) (feed a w answer t)
+      go : (b : Bool) → waitsAt ACCEPTED (namedRow (hours l) l a) ≡ b → Left B l (next b) (named a) (status (namedRow (hours l) l a)) (status (row (hours l) (next b) (named a))) → AnswerOf answer (a .reference) (status (namedRow (hours l) l a)) (status (row (hours l) (next b) (named a))) → Good B (next b) (feed a w answer t)
       go true q s x = approve-confirms q s x k
       go false q s x = approve-raises s x k
 
 -- ---- 5 Reduce
-pub reduce-good : {l : List ℕ} {t : Tally} → Good l t → (w : List ℕ) (a : Action) → ReducePassed (hours l) l w a → SoundLedger (reduceAfter (hours l) l w a)
+pub reduce-good : {B : ℕ → ℕ → ℕ} {l : List ℕ} {t : Tally} → Good B l t → (w : List ℕ) (a : Action) → ReducePassed (hours l) l w a → SoundLedger (reduceAfter (hours l) l w a)
     → {answer : Answer} → AnswerOf answer (a .reference) (status (namedRow (hours l) l a)) (status (row (hours l) (reduceAfter (hours l) l w a) (named a)))
-    → a .kind ≡ 5 → Good (reduceAfter (hours l) l w a) (feed a w answer t)
+    → a .kind ≡ 5 → Good B (reduceAfter (hours l) l w a) (feed a w answer t)
 unfolding reduceAfter changed
-reduce-good {l} {t} G w a P S {answer} A k =
+reduce-good {B} {l} {t} G w a P S {answer} A k =
     let F = formed (G .sound) in
     let lt = is-used G a (P .reference .0) (P .reference .1) in
     let later : a .kind ≢ 1 = λ z. omega (arith, z, k) in
@@ -201,19 +202,18 @@ reduce-good {l} {t} G w a P S {answer} A k =
     (λ m ne. fed-unreduced a w answer t count later before after k (named a) ref h m ne))
 
 -- ---- 7 Clock: a row is as it was, and the answer is not counted
-pub clock-good : {l : List ℕ} {t : Tally} → Good l t → (w : List ℕ) (a : Action) → SoundLedger (clockAfter l a) → a .kind ≡ 7 → Good (clockAfter l a) (feed a w (answered (hours l) l w a (clockAfter l a)) t)
+pub clock-good : {B : ℕ → ℕ → ℕ} {l : List ℕ} {t : Tally} → Good B l t → (w : List ℕ) (a : Action) → SoundLedger (clockAfter l a) → a .kind ≡ 7 → Good B (clockAfter l a) (feed a w (answered (hours l) l w a (clockAfter l a)) t)
 unfolding answered refusal counts clockAfter
-clock-good {l} {t} G w a S k =
-    subst (λ (u : Tally). Good l′ u)
-    (sym (feed-none a w _ t (ap (λ (x : Answer). counts x) (ap (λ (b : Bool). pick b (refusal 0) (acceptance (hours l) l w a l′)) (eq-eqb (a .kind) 7 k)))))
+clock-good {B} {l} {t} G w a S k =
+    subst (λ (u : Tally). Good B l′ u)
+    (sym (feed-none a w _ t (ap (λ (x : Answer). counts x) (ap (λ (b : Bool). pick (b || eqb (a .kind) 8) (refusal 0) (acceptance (hours l) l w a l′)) (eq-eqb (a .kind) 7 k)))))
     (record {
       sound = S;
-      good = subst (λ (H : ℕ). GoodAt H l′ t) (sym (getD-set-other l 5 1 (a .time) 0 (λ e. omega (arith, e))))
+      good = subst (λ (H : ℕ). GoodAt B H l′ t) (sym (getD-set-other l 5 1 (a .time) 0 (λ e. omega (arith, e))))
           (record {
             entries = λ n lt. subst (λ (r : List ℕ). Agrees (hours l) r (t (suc n))) (sym (same n)) (G .good .entries n (omega (arith, users)));
             others = λ r z. G .good .others r (⊎-elim (λ u. inl u) (λ u. inr (omega (arith, u, users))) z);
-            shape = λ h lt. moved h lt .shape;
-            inv = λ h lt. moved h lt .inv;
+            columns = moved;
           });
     })
   where
@@ -226,5 +226,5 @@ clock-good {l} {t} G w a S k =
     same : (n : ℕ) → row (hours l) l′ n ≡ row (hours l) l n
     same n = head-row (hours l) l 5 (a .time) n (lit< tt)
 
-    moved : (h : ℕ) → h < hours l → Ordered (view (hours l) h l′ (outOf t h) (redOf t h))
+    moved : (h : ℕ) → h < hours l → Ordered (B h) (view (hours l) h l′ (outOf t h) (redOf t h))
     moved h lt = stepped (clock-step (hours l) h l a (outOf t h) (outOf t h) (redOf t h) (redOf t h) (record { out = λ k m. refl }) (record { red = λ m. refl })) (ordered G h lt)

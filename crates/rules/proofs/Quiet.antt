@@ -12,7 +12,7 @@ use lib.IntN.{ℤ}
 use Rattle.words.proofs.Laws.{splice-length, splice-before, splice-after}
 use Rattle.rules.specs.Pick.{when}
 use Rattle.rules.specs.Numbers.{rowWords, requestedPart, grantedPart, availablePart, displacedPart, approved}
-use Rattle.rules.specs.Layout.{hours, used, row, onRow, rowSize, reqtype, status, related, start, spanHours, hourAt, setHours, setStatus, raise}
+use Rattle.rules.specs.Layout.{hours, used, row, onRow, rowSize, reqtype, status, related, path, start, spanHours, hourAt, setHours, setStatus, raise}
 use Rattle.rules.specs.Megawatts.{grant}
 use Rattle.rules.specs.Checks.{profile, comes}
 use Rattle.rules.specs.SellerStatus.{accepts, offered}
@@ -33,19 +33,21 @@ pub record Calm (H h : ℕ) (r q : List ℕ) (s : ℕ) : Type 0 where
   pub type : reqtype q ≡ reqtype r
   pub status : status q ≡ s
   pub related : related q ≡ related r
+  pub path : path q ≡ path r
   pub available : megawatts H h q availablePart ≡ megawatts H h r availablePart
   pub displaced : megawatts H h q displacedPart ≡ megawatts H h r displacedPart
 
 pub calm-self : (H h : ℕ) (r : List ℕ) → length r ≡ rowSize H → Calm H h r r (status r)
-calm-self H h r e = record { long = e; type = refl; status = refl; related = refl; available = refl; displaced = refl }
+calm-self H h r e = record { long = e; type = refl; status = refl; related = refl; path = refl; available = refl; displaced = refl }
 
 module _ {H h : ℕ} {r q : List ℕ} {s : ℕ} (c : Calm H h r q s) where
-  pub calm-set : (k v : ℕ) → k < rowWords → 0 ≢ k → 1 ≢ k → 4 ≢ k → Calm H h r (set q k v) s
-  calm-set k v lt n0 n1 n4 = record {
+  pub calm-set : (k v : ℕ) → k < rowWords → 0 ≢ k → 1 ≢ k → 4 ≢ k → 11 ≢ k → Calm H h r (set q k v) s
+  calm-set k v lt n0 n1 n4 n11 = record {
     long = length-set q k v ∙ c .long;
     type = getD-set-other q k 0 v 0 n0 ∙ c .type;
     status = getD-set-other q k 1 v 0 n1 ∙ c .status;
     related = getD-set-other q k 4 v 0 n4 ∙ c .related;
+    path = getD-set-other q k 11 v 0 n11 ∙ c .path;
     available = getD-set-other q k (hourAt H availablePart h) v 0 (λ e. omega (arith, e, lt)) ∙ c .available;
     displaced = getD-set-other q k (hourAt H displacedPart h) v 0 (λ e. omega (arith, e, lt)) ∙ c .displaced;
   }
@@ -56,6 +58,7 @@ module _ {H h : ℕ} {r q : List ℕ} {s : ℕ} (c : Calm H h r q s) where
     type = getD-set-other q 1 0 v 0 (λ e. omega (arith, e)) ∙ c .type;
     status = getD-set-same q 1 v 0 (omega (arith, c .long));
     related = getD-set-other q 1 4 v 0 (λ e. omega (arith, e)) ∙ c .related;
+    path = getD-set-other q 1 11 v 0 (λ e. omega (arith, e)) ∙ c .path;
     available = getD-set-other q 1 (hourAt H availablePart h) v 0 (λ e. omega (arith, e)) ∙ c .available;
     displaced = getD-set-other q 1 (hourAt H displacedPart h) v 0 (λ e. omega (arith, e)) ∙ c .displaced;
   }
@@ -68,6 +71,7 @@ module _ {H h : ℕ} {r q : List ℕ} {s : ℕ} (c : Calm H h r q s) where
     type = splice-before q (hourAt H p a) v room 0 (omega arith) ∙ c .type;
     status = splice-before q (hourAt H p a) v room 1 (omega arith) ∙ c .status;
     related = splice-before q (hourAt H p a) v room 4 (omega arith) ∙ c .related;
+    path = splice-before q (hourAt H p a) v room 11 (omega arith) ∙ c .path;
     available = splice-after q (hourAt H p a) v room (hourAt H availablePart h) (omega (arith, hour-apart H plt, fits)) ∙ c .available;
     displaced = splice-after q (hourAt H p a) v room (hourAt H displacedPart h) (omega (arith, hour-apart H plt, fits)) ∙ c .displaced;
   }
@@ -80,16 +84,16 @@ calm-when true f c d = d refl
 calm-when false f c d = c
 
 -- ---- such a write is a step
-module _ {R H : ℕ} {l : List ℕ} {n : ℕ} (o : Placed R H l n) {h : ℕ} (f : List ℕ → List ℕ) {s : ℕ} (c : Calm H h (row H l n) (f (row H l n)) s) (before : Off (status (row H l n))) (after : Off s) where
+module _ {R H : ℕ} {l : List ℕ} {n : ℕ} (o : Placed R H l n) {h : ℕ} (f : List ℕ → List ℕ) {s : ℕ} (c : Calm H h (row H l n) (f (row H l n)) s) (before : Off (status (row H l n))) (after : Off s) {B : ℕ → ℕ} where
   pub calm-step : (out out′ : ℕ → ℕ → ℤ) (red red′ : ℕ → ℤ)
       → OutStays (view H h l out red) (view H h (onRow H n f l) out′ red′)
       → RedStays (view H h l out red) (view H h (onRow H n f l) out′ red′)
-      → Step (view H h l out red) (view H h (onRow H n f l) out′ red′)
+      → Step B (view H h l out red) (view H h (onRow H n f l) out′ red′)
   calm-step out out′ red red′ outs reds =
       let T : Turned R H l (onRow H n f l) n (f (row H l n)) = turned (o .sized) (o .own) f refl (c .long) in
       quiet n
       record {
-        keeps = record { used = T .head 6 (lit< tt); ty = kept-word T refl 0 (c .type); ref = kept-word T refl 4 (c .related) };
+        keeps = record { used = T .head 6 (lit< tt); ty = kept-word T refl 0 (c .type); ref = kept-word T refl 4 (c .related); path = kept-word T refl 11 (c .path) };
         in-use = o .in-use;
         before = before;
         after = subst Off (sym (ap (λ (x : List ℕ). status x) (T .own) ∙ c .status)) after;
@@ -109,44 +113,44 @@ module _ {R H : ℕ} {l : List ℕ} {n : ℕ} (o : Placed R H l n) (h : ℕ) whe
   status-calm s = calm-status own-calm s
 
   pub approved-calm : Calm H h (row H l n) (raise approved (row H l n)) (status (row H l n))
-  approved-calm = calm-set own-calm 7 _ (lit< tt) (λ e. omega (arith, e)) (λ e. omega (arith, e)) (λ e. omega (arith, e))
+  approved-calm = calm-set own-calm 7 _ (lit< tt) (λ e. omega (arith, e)) (λ e. omega (arith, e)) (λ e. omega (arith, e)) (λ e. omega (arith, e))
 
   pub bidden-calm : (w : List ℕ) (a : Action) → (comes a ≡ true → length (profile w a) ≡ spanHours (row H l n)) → Calm H h (row H l n) (bidden H w a (row H l n)) (status (row H l n))
   unfolding bidden
   bidden-calm w a long =
-      let B = calm-set own-calm 8 (a .price) (lit< tt) (λ e. omega (arith, e)) (λ e. omega (arith, e)) (λ e. omega (arith, e)) in
+      let B = calm-set own-calm 8 (a .price) (lit< tt) (λ e. omega (arith, e)) (λ e. omega (arith, e)) (λ e. omega (arith, e)) (λ e. omega (arith, e)) in
       calm-when (comes a) (setHours H requestedPart (start (row H l n)) (profile w a)) B
       (λ e. calm-hours B requestedPart (start (row H l n)) (profile w a) (lit< tt) (omega (arith, long e, span-fits o)))
 
   grant-calm : {q : List ℕ} {s : ℕ} (mw : List ℕ) → length mw ≡ spanHours (row H l n) → Calm H h (row H l n) q s → Calm H h (row H l n) (grant H (start (row H l n)) mw q) s
   unfolding grant
   grant-calm mw long c =
-      calm-set (calm-hours c grantedPart (start (row H l n)) mw (lit< tt) (omega (arith, long, span-fits o))) 7 _ (lit< tt) (λ e. omega (arith, e)) (λ e. omega (arith, e)) (λ e. omega (arith, e))
+      calm-set (calm-hours c grantedPart (start (row H l n)) mw (lit< tt) (omega (arith, long, span-fits o))) 7 _ (lit< tt) (λ e. omega (arith, e)) (λ e. omega (arith, e)) (λ e. omega (arith, e)) (λ e. omega (arith, e))
 
   pub offered-calm : (expires : ℕ) (a : Action) (mw : List ℕ) → length mw ≡ spanHours (row H l n) → Calm H h (row H l n) (offered H expires a mw (row H l n)) (a .status)
   unfolding offered
   offered-calm expires a mw long =
-      let A = calm-set own-calm 9 (a .price) (lit< tt) (λ e. omega (arith, e)) (λ e. omega (arith, e)) (λ e. omega (arith, e)) in
-      let B = calm-set A 7 _ (lit< tt) (λ e. omega (arith, e)) (λ e. omega (arith, e)) (λ e. omega (arith, e)) in
+      let A = calm-set own-calm 9 (a .price) (lit< tt) (λ e. omega (arith, e)) (λ e. omega (arith, e)) (λ e. omega (arith, e)) (λ e. omega (arith, e)) in
+      let B = calm-set A 7 _ (lit< tt) (λ e. omega (arith, e)) (λ e. omega (arith, e)) (λ e. omega (arith, e)) (λ e. omega (arith, e)) in
       let C = calm-when (comes a || accepts a) (grant H (start (row H l n)) mw) B (λ e. grant-calm mw long B) in
-      calm-status (calm-set C 10 expires (lit< tt) (λ e. omega (arith, e)) (λ e. omega (arith, e)) (λ e. omega (arith, e))) (a .status)
+      calm-status (calm-set C 10 expires (lit< tt) (λ e. omega (arith, e)) (λ e. omega (arith, e)) (λ e. omega (arith, e)) (λ e. omega (arith, e))) (a .status)
 
 -- ---- of a formed ledger
-module _ {l : List ℕ} {n : ℕ} (f : Formed l) (lt : n < used l) (before : Off (status (row (hours l) l n))) {h : ℕ} (hlt : h < hours l) (out out′ : ℕ → ℕ → ℤ) (red red′ : ℕ → ℤ) where
+module _ {l : List ℕ} {n : ℕ} (f : Formed l) (lt : n < used l) (before : Off (status (row (hours l) l n))) {h : ℕ} (hlt : h < hours l) (out out′ : ℕ → ℕ → ℤ) (red red′ : ℕ → ℤ) {B : ℕ → ℕ} where
   pub offered-step : (expires : ℕ) (a : Action) (mw : List ℕ) → length mw ≡ spanHours (row (hours l) l n) → Off (a .status)
       → OutStays (view (hours l) h l out red) (view (hours l) h (onRow (hours l) n (offered (hours l) expires a mw) l) out′ red′)
       → RedStays (view (hours l) h l out red) (view (hours l) h (onRow (hours l) n (offered (hours l) expires a mw) l) out′ red′)
-      → Step (view (hours l) h l out red) (view (hours l) h (onRow (hours l) n (offered (hours l) expires a mw) l) out′ red′)
+      → Step B (view (hours l) h l out red) (view (hours l) h (onRow (hours l) n (offered (hours l) expires a mw) l) out′ red′)
   offered-step expires a mw long after =
       calm-step (placed f lt) (offered (hours l) expires a mw) (offered-calm (placed f lt) h expires a mw long) before after out out′ red red′
 
   pub status-step : (s : ℕ) → Off s
       → OutStays (view (hours l) h l out red) (view (hours l) h (onRow (hours l) n (setStatus s) l) out′ red′)
       → RedStays (view (hours l) h l out red) (view (hours l) h (onRow (hours l) n (setStatus s) l) out′ red′)
-      → Step (view (hours l) h l out red) (view (hours l) h (onRow (hours l) n (setStatus s) l) out′ red′)
+      → Step B (view (hours l) h l out red) (view (hours l) h (onRow (hours l) n (setStatus s) l) out′ red′)
   status-step s after = calm-step (placed f lt) (setStatus s) (status-calm (placed f lt) h s) before after out out′ red red′
 
   pub approved-step : OutStays (view (hours l) h l out red) (view (hours l) h (onRow (hours l) n (raise approved) l) out′ red′)
       → RedStays (view (hours l) h l out red) (view (hours l) h (onRow (hours l) n (raise approved) l) out′ red′)
-      → Step (view (hours l) h l out red) (view (hours l) h (onRow (hours l) n (raise approved) l) out′ red′)
+      → Step B (view (hours l) h l out red) (view (hours l) h (onRow (hours l) n (raise approved) l) out′ red′)
   approved-step = calm-step (placed f lt) (raise approved) (approved-calm (placed f lt) h) before before out out′ red red′

@@ -21,7 +21,7 @@ use Rattle.rules.proofs.Good.{Good}
 use Rattle.rules.proofs.Keeping.{stepped, ordered}
 use Rattle.rules.proofs.Confirmed.{Ready}
 
-module _ {l : List ℕ} {t : Tally} (G : Good l t) {n : ℕ} (lt : n < used l) (off : Off (status (row (hours l) l n))) where
+module _ {B : ℕ → ℕ → ℕ} {l : List ℕ} {t : Tally} (G : Good B l t) {n : ℕ} (lt : n < used l) (off : Off (status (row (hours l) l n))) where
   F : Formed l
   F = formed (G .sound)
 
@@ -34,17 +34,18 @@ module _ {l : List ℕ} {t : Tally} (G : Good l t) {n : ℕ} (lt : n < used l) (
     head = λ i ilt. refl;
   }
 
-  pub ready-self : Ready l l t n (row (hours l) l n)
-  ready-self = record { formed = F; leaves = self-leaves; same-type = refl; same-related = refl; ordered = ordered G; off = off }
+  pub ready-self : Ready B l l t n (row (hours l) l n)
+  ready-self = record { formed = F; leaves = self-leaves; same-type = refl; same-related = refl; same-path = refl; ordered = ordered G; off = off }
 
   -- f writes in the row and leaves it neither CONFIRMED nor DISPLACED
   pub ready-on : (f : List ℕ → List ℕ) → Same (hours l) (row (hours l) l n) (f (row (hours l) l n)) → (s : ℕ)
-      → ((h : ℕ) → Calm (hours l) h (row (hours l) l n) (f (row (hours l) l n)) s) → Off s → Ready l (onRow (hours l) n f l) t n (f (row (hours l) l n))
+      → ((h : ℕ) → Calm (hours l) h (row (hours l) l n) (f (row (hours l) l n)) s) → Off s → Ready B l (onRow (hours l) n f l) t n (f (row (hours l) l n))
   ready-on f same s calm after = record {
     formed = next-own F lt f same .formed;
     leaves = own-leaves F lt f (same .long);
     same-type = same .type;
     same-related = same .related;
+    same-path = calm 0 .path;
     ordered = λ h hlt. stepped (calm-step (placed F lt) f (calm h) off after (outOf t h) (outOf t h) (redOf t h) (redOf t h) (record { out = λ k m. refl }) (record { red = λ m. refl })) (ordered G h hlt);
     off = subst Off (sym (calm 0 .status)) after;
   }

@@ -37,21 +37,22 @@ use Rattle.rules.proofs.TallyLaws.{entryAfter, fed-red, fed-quiet, fed-
 use Rattle.rules.proofs.Entries.{shown, other-unsettled, status-agrees, displaced-agrees, annulled-agrees, goes-on, after-length, offered-agrees, offered-start, offered-confirms, agrees-granted}
 use Rattle.rules.proofs.Shown.{shown-annulled}
 use Rattle.rules.proofs.Good.{Agrees, Good}
+use Rattle.rules.proofs.Tests.{Left, takes-annulled}
 use Rattle.rules.proofs.Answers.{AnswerOf, answer-counts}
 use Rattle.rules.proofs.Readying.{ready-on}
 use Rattle.rules.proofs.Naming.{set-status, ready-status, either-agrees, is-used, spanned, is-reference, own-agrees, stepped-good, confirmed-good}
 
 -- a row that is displaced, or annulled, has that status
-row-displaced : (H : ℕ) (r : List ℕ) → length (displacedRow H r) ≡ rowSize H → status (displacedRow H r) ≡ DISPLACED
+pub row-displaced : (H : ℕ) (r : List ℕ) → length (displacedRow H r) ≡ rowSize H → status (displacedRow H r) ≡ DISPLACED
 unfolding displacedRow
 row-displaced H r e = set-status (clearHours H availablePart (start r) (spanHours r) (addHours H displacedPart (start r) (available H r) r)) DISPLACED H e
 
-row-annulled : (H : ℕ) (r : List ℕ) → length (annulledRow H r) ≡ rowSize H → status (annulledRow H r) ≡ ANNULLED
+pub row-annulled : (H : ℕ) (r : List ℕ) → length (annulledRow H r) ≡ rowSize H → status (annulledRow H r) ≡ ANNULLED
 unfolding annulledRow
 row-annulled H r e = set-status (clearHours H availablePart (start r) (spanHours r) r) ANNULLED H e
 
 -- 6, 7, 10 or 11
-offer-most : (a : Action) → offers a ≡ true → a .status ≤ 11
+pub offer-most : (a : Action) → offers a ≡ true → a .status ≤ 11
 unfolding offers counters accepts
 offer-most a o =
     ⊎-elim
@@ -59,7 +60,7 @@ offer-most a o =
     (λ x. ⊎-elim (λ y. omega (arith, y)) (λ y. omega (arith, last-one (a .status) 11 y)) (is-one (a .status) 10 _ x))
     (or-some (a .status among (6 ∷ 7 ∷ [])) _ o)
 
-module _ {l : List ℕ} {t : Tally} (G : Good l t) (w : List ℕ) (a : Action) (P : SellerPassed (hours l) l w a) (k : a .kind ≡ 2) where
+module _ {B : ℕ → ℕ → ℕ} {l : List ℕ} {t : Tally} (G : Good B l t) (w : List ℕ) (a : Action) (P : SellerPassed (hours l) l w a) (k : a .kind ≡ 2) where
   abbrev H : ℕ
   H = hours l
 
@@ -86,7 +87,7 @@ module _ {l : List ℕ} {t : Tally} (G : Good l t) (w : List ℕ) (a : Action) (
 
   -- what is to be shown of the ledger that a move leaves
   abbrev Kept : List ℕ → Type 0
-  Kept next = SoundLedger next → (answer : Answer) → AnswerOf answer (a .reference) (status (namedRow (hours l) l a)) (status (row (hours l) next (named a))) → Good next (feed a w answer t)
+  Kept next = Left B l next (named a) (status (namedRow (hours l) l a)) (status (row (hours l) next (named a))) → (answer : Answer) → AnswerOf answer (a .reference) (status (namedRow (hours l) l a)) (status (row (hours l) next (named a))) → Good B next (feed a w answer t)
 
   -- ---- 6, 7, 10, 11
   module _ (o : offers a ≡ true) where
@@ -115,7 +116,7 @@ module _ {l : List ℕ} {t : Tally} (G : Good l t) (w : List ℕ) (a : Action) (
         let L = own-leaves F lt (offered H (clock l + window l) a mw) (same .long) in
         let now : status (row H (onRow H n (offered H (clock l + window l) a mw) l) n) ≡ a .status = ap status (L .own) ∙ offered-calm (placed F lt) 0 (clock l + window l) a mw long .status in
         let after : answer .after ≡ a .status = A .after ∙ now in
-        stepped-good G a (P .reference .0) (P .reference .1) w A later S L (offered-agrees E m a w answer k o (Q .profile) (clock l + window l) after)
+        stepped-good G a (P .reference .0) (P .reference .1) w A later (S .sound) L (offered-agrees E m a w answer k o (Q .profile) (clock l + window l) after)
         (λ h hlt. offered-step F lt (offs .0) hlt (outOf t h) (outOf (feed a w answer t) h) (redOf t h) (redOf (feed a w answer t) h) (clock l + window l) a mw long (offs .1)
         (record { out = λ j m. fed-quiet a w answer t (answer-counts A (P .reference .0)) later (λ z. offs .1 .0 (sym after ∙ z)) (inl (λ z. offs .0 .0 (sym (A .before) ∙ z))) five h j m })
         (record { red = λ m. fed-red a w answer t (answer-counts A (P .reference .0)) later five h m }))
@@ -153,7 +154,7 @@ module _ {l : List ℕ} {t : Tally} (G : Good l t) (w : List ℕ) (a : Action) (
         let L = displace-leaves F lt in
         let now : status (row H (displace H n l) n) ≡ DISPLACED = ap status (L .own) ∙ displaced-status in
         let after : answer .after ≡ DISPLACED = A .after ∙ now in
-        stepped-good G a (P .reference .0) (P .reference .1) w A later S L (displaced-agrees E m a w answer after k o)
+        stepped-good G a (P .reference .0) (P .reference .1) w A later (S .sound) L (displaced-agrees E m a w answer after k o)
         (λ h hlt. displace-step F lt (move .displaces e .1) (move .displaces e .0) hlt (outOf t h) (outOf (feed a w answer t) h) (redOf t h) (redOf (feed a w answer t) h)
         (record { out = λ j m. fed-quiet a w answer t (answer-counts A (P .reference .0)) later (λ z. omega (arith, z, after)) (inr (λ z. omega (arith, z, after))) five h j m })
         (record { red = λ m. fed-red a w answer t (answer-counts A (P .reference .0)) later five h m }))
@@ -172,17 +173,18 @@ module _ {l : List ℕ} {t : Tally} (G : Good l t) (w : List ℕ) (a : Action) (
         let after : answer .after ≡ ANNULLED = A .after ∙ now in
         let before : answer .before ≡ CONFIRMED = A .before ∙ at .1 in
         let count = answer-counts A (P .reference .0) in
-        let B = annulled-agrees E m a w answer after k o in
-        let B′ = shown-annulled (shown E m) in
+        let N = annulled-agrees E m a w answer after k o in
+        let N′ = shown-annulled (shown E m) in
         let same-granted : entryAfter a w answer t .granted ≡ t (answer .reference) .granted =
-        B .same-granted ∙ ap (λ (b : Bool). pick b (granted H (annulledRow H r)) []) (B′ .flag) ∙ ap (λ (v : List ℕ). pick (has grantedGiven r) v []) (B′ .granted) ∙ sym (E .same-granted) in
+        N .same-granted ∙ ap (λ (b : Bool). pick b (granted H (annulledRow H r)) []) (N′ .flag) ∙ ap (λ (v : List ℕ). pick (has grantedGiven r) v []) (N′ .granted) ∙ sym (E .same-granted) in
         let full : (h : ℕ) → h < H → grantedIn (entryAfter a w answer t) h ≡ getD r (hourAt H grantedPart h) 0 =
         λ h hlt. ap (λ (v : List ℕ). standing (t (answer .reference) .start) v h) same-granted ∙ agrees-granted E m (λ h hlt. F .profiles n lt .outside grantedPart h (lit< tt) hlt) h hlt in
-        stepped-good G a (P .reference .0) (P .reference .1) w A later S L B
+        stepped-good G a (P .reference .0) (P .reference .1) w A later (S .sound) L N
         (λ h hlt. annul-step F lt (move .annuls-confirmed (at .0) (at .1)) (at .1) hlt (outOf t h) (outOf (feed a w answer t) h) (redOf t h) (redOf (feed a w answer t) h) (P .whole e)
         (λ most. record { out = λ j m. fed-annul-top a w answer t count later (reqtype r) (related r) h (getD r (hourAt H grantedPart h) 0) (E .same-type) (E .same-related) (full h hlt) before after (F .words n lt .type-least) most j m })
         (λ least j m. fed-annul-child a w answer t count later (reqtype r) (related r) h (getD r (hourAt H grantedPart h) 0) (E .same-type) (E .same-related) (full h hlt) before after least (move .annuls-confirmed (at .0) (at .1)) (F .relations n lt .up least .0) j m)
-        (record { red = λ m. fed-red a w answer t count later five h m }))
+        (record { red = λ m. fed-red a w answer t count later five h m })
+        (S .tested (takes-annulled _ _ (at .1) now) h hlt (outOf t h) (outOf (feed a w answer t) h) (redOf t h) (redOf (feed a w answer t) h)))
 
     status-kept : a .status ≢ DISPLACED → annulsConfirmed a r ≡ false → Kept (onRow H n (setStatus (a .status)) l)
     status-kept ne e S answer A =
@@ -194,7 +196,7 @@ module _ {l : List ℕ} {t : Tally} (G : Good l t) (w : List ℕ) (a : Action) (
         let after : answer .after ≡ a .status = A .after ∙ now in
         let off = quiet-offs ne e in
         let u = other-unsettled a r o (P .may) in
-        stepped-good G a (P .reference .0) (P .reference .1) w A later S L (status-agrees E m a w answer (a .status) after u (inl (λ z. omega (arith, z, k))) (inr o))
+        stepped-good G a (P .reference .0) (P .reference .1) w A later (S .sound) L (status-agrees E m a w answer (a .status) after u (inl (λ z. omega (arith, z, k))) (inr o))
         (λ h hlt. status-step F lt (off .0) hlt (outOf t h) (outOf (feed a w answer t) h) (redOf t h) (redOf (feed a w answer t) h) (a .status) (off .1)
         (record { out = λ j m. fed-quiet a w answer t (answer-counts A (P .reference .0)) later (λ z. off .1 .0 (sym after ∙ z)) (inl (λ z. off .0 .0 (sym (A .before) ∙ z))) five h j m })
         (record { red = λ m. fed-red a w answer t (answer-counts A (P .reference .0)) later five h m }))
@@ -223,7 +225,7 @@ module _ {l : List ℕ} {t : Tally} (G : Good l t) (w : List ℕ) (a : Action) (
       go true o = offer-kept o
       go false o = other-kept o
 
-pub seller-good : {l : List ℕ} {t : Tally} → Good l t → (w : List ℕ) (a : Action) → SellerPassed (hours l) l w a → SoundLedger (sellerAfter (hours l) l w a)
+pub seller-good : {B : ℕ → ℕ → ℕ} {l : List ℕ} {t : Tally} → Good B l t → (w : List ℕ) (a : Action) → SellerPassed (hours l) l w a → Left B l (sellerAfter (hours l) l w a) (named a) (status (namedRow (hours l) l a)) (status (row (hours l) (sellerAfter (hours l) l w a) (named a)))
     → {answer : Answer} → AnswerOf answer (a .reference) (status (namedRow (hours l) l a)) (status (row (hours l) (sellerAfter (hours l) l w a) (named a)))
-    → a .kind ≡ 2 → Good (sellerAfter (hours l) l w a) (feed a w answer t)
+    → a .kind ≡ 2 → Good B (sellerAfter (hours l) l w a) (feed a w answer t)
 seller-good G w a P S {answer} A k = seller-kept G w a P k S answer A

@@ -13,8 +13,8 @@ use lib.Seq.{getD-take, getD-drop}
 use borrow.Author.Tests.{leb-true, ltb-true, eqb-true, eqb-false, le-leb, lt-ltb, eq-eqb, ne-eqb}
 use Rattle.words.specs.Lists.{part, allBelow, within, zeros}
 use Rattle.words.proofs.Laws.{lt-or-le, and-left, and-right, all-at, all-below, within-at, within-all, zeros-at, zeros-all}
-use Rattle.rules.specs.Numbers.{rowWords, usedWords, profiles, mostRows, mostHours, mostEntity, mostWindow, mostPrice, mostMegawatts, mostType, mostStatus, mostFlags, endHour, endSecond, endLimit, entity, NONFIRM-REDIRECT, RELINQUISH}
-use Rattle.rules.specs.Layout.{rows, hours, provider, window, base, clock, used, headEnd, rowBase, rowSize, row, reqtype, status, customer, seller, related, start, stop, flags, bid, offer, limit, relatedRow, hourAt, hoursOf, spanHours, span, Sized}
+use Rattle.rules.specs.Numbers.{rowWords, usedWords, profiles, mostRows, mostHours, mostEntity, mostWindow, mostPrice, mostMegawatts, mostType, mostStatus, mostFlags, mostPath, endHour, endSecond, endLimit, entity, NONFIRM-REDIRECT, RELINQUISH}
+use Rattle.rules.specs.Layout.{rows, hours, provider, window, base, clock, used, headEnd, rowBase, rowSize, row, reqtype, status, customer, seller, related, start, stop, flags, bid, offer, limit, path, relatedRow, hourAt, hoursOf, spanHours, span, Sized}
 use Rattle.rules.specs.Create.{goodNumbers}
 use Rattle.rules.specs.Sound.{upward, relates, inside, soundHead, soundWords, soundProfile, soundRelated, soundRow, unusedZero, sound}
 use Rattle.rules.proofs.Types.{original-type, derived-type}
@@ -46,6 +46,7 @@ pub record SoundWords (H : ℕ) (r : List ℕ) : Type 0 where
   pub bid : bid r ≤ mostPrice
   pub offer : offer r ≤ mostPrice
   pub limit : limit r < endLimit
+  pub path : (1 ≤ path r) × (path r ≤ mostPath)
   pub rest : (k : ℕ) → usedWords ≤ k → k < rowWords → getD r k 0 ≡ 0
 
 -- its profiles, hour by hour
@@ -166,6 +167,7 @@ words-facts H r e =
     let i = both _ _ (h .1) in
     let j = both _ _ (i .1) in
     let m = both _ _ (j .1) in
+    let n = both _ _ (m .1) in
     let t = range 1 (reqtype r) mostType (a .0) in
     let s = range 1 (status r) mostStatus (b .0) in
     record {
@@ -181,11 +183,12 @@ words-facts H r e =
       bid = leb-true _ _ (i .0);
       offer = leb-true _ _ (j .0);
       limit = ltb-true _ _ (m .0);
+      path = range 1 (path r) mostPath (n .0);
       rest = λ k least most.
           let q : usedWords + (k - usedWords) ≡ k = omega (arith, least) in
           ap (λ (x : ℕ). getD r x 0) (sym q)
           ∙ sym (part-word r usedWords (rowWords - usedWords) (k - usedWords) (omega (arith, least, most)))
-          ∙ zeros-word (part r usedWords (rowWords - usedWords)) (m .1) (k - usedWords);
+          ∙ zeros-word (part r usedWords (rowWords - usedWords)) (n .1) (k - usedWords);
     }
 
 facts-words : (H : ℕ) (r : List ℕ) → SoundWords H r → soundWords H r ≡ true
@@ -201,11 +204,12 @@ facts-words H r w =
     (join _ _ (le-leb _ _ (w .bid))
     (join _ _ (le-leb _ _ (w .offer))
     (join _ _ (lt-ltb _ _ (w .limit))
+    (join _ _ (ranged 1 (path r) mostPath (w .path))
     (zeros-all (part r usedWords (rowWords - usedWords))
     (λ k lt.
     let k5 : k < rowWords - usedWords = part-most r usedWords (rowWords - usedWords) k lt in
     part-word r usedWords (rowWords - usedWords) k k5
-    ∙ w .rest (usedWords + k) (omega arith) (omega (arith, k5)))))))))))))
+    ∙ w .rest (usedWords + k) (omega arith) (omega (arith, k5))))))))))))))
 
 -- ---- profiles
 hour-word : (H p s n : ℕ) (r : List ℕ) (h : ℕ) → s ≤ h → h < s + n → getD r (hourAt H p h) 0 ≡ getD (hoursOf H p s n r) (h - s) 0

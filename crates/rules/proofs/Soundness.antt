@@ -19,18 +19,22 @@ use Rattle.rules.specs.Sound.{sound}
 use Rattle.rules.specs.Megawatts.{inForce, carriesOver}
 use Rattle.rules.specs.Confirming.{confirm}
 use Rattle.rules.specs.Checks.{named, namedRow, profile, waitsAt}
-use Rattle.rules.specs.SellerStatus.{offers, grantedAfter, goesOn, offered, annulsConfirmed, offerAfter, otherAfter, sellerAfter}
-use Rattle.rules.specs.CustomerStatus.{bids, confirms, bidden, bidAfter, customerAfter}
-use Rattle.rules.specs.Approve.{approveAfter}
-use Rattle.rules.specs.Reduce.{reduceAfter}
-use Rattle.rules.specs.Lapse.{lapseAfter}
-use Rattle.rules.specs.Clock.{clockAfter}
-use Rattle.rules.specs.Act.{kindNumber, kindAfter, commonNumber, lastNumber, soundNumber, number, refused, accepted, step}
+use Rattle.rules.specs.SellerStatus.{sellerNumber, offers, grantedAfter, goesOn, offered, annulsConfirmed, offerAfter, otherAfter, sellerAfter}
+use Rattle.rules.specs.CustomerStatus.{customerNumber, bids, confirms, bidden, bidAfter, customerAfter}
+use Rattle.rules.specs.Approve.{approveNumber, approveAfter}
+use Rattle.rules.specs.Reduce.{reduceNumber, reduceAfter}
+use Rattle.rules.specs.Lapse.{lapseNumber, lapseAfter}
+use Rattle.rules.specs.Clock.{clockNumber, clockAfter}
+use Rattle.rules.specs.Submit.{submitNumber}
+use Rattle.rules.specs.Paths.{soundPostings}
+use Rattle.rules.specs.Post.{postNumber, posted}
+use Rattle.rules.specs.Act.{byKind, kindNumber, kindAfter, postingsAfter, commonNumber, overUse, useNumber, lastNumber, soundNumber, number, Outcome, refused, accepted, step, soundBoth}
 use Rattle.rules.specs.declared.Action.{Action}
 use Rattle.rules.proofs.Rows.{row-least, head-row}
 use Rattle.rules.proofs.SoundFacts.{SoundWords, SoundLedger, sound-facts, facts-sound}
 use Rattle.rules.proofs.Formed.{FormedHours, Formed, formed}
-use Rattle.rules.proofs.Passed.{gives-none, or-else-none, profile-length, SellerPassed, CustomerPassed, ApprovePassed, ReducePassed, LapsePassed, ClockPassed, submit-passed, seller-status-passed, customer-status-passed, approve-passed, reduce-passed, lapse-passed, clock-passed}
+use Rattle.rules.proofs.Passed.{gives-none, or-else-none, profile-length, SellerPassed, CustomerPassed, ApprovePassed, ReducePassed, LapsePassed, ClockPassed, submit-passed, seller-status-passed, customer-status-passed, approve-passed, reduce-passed, lapse-passed, clock-passed, post-passed}
+use Rattle.rules.proofs.Posts.{SoundPostings, postings-facts, facts-postings, posted-sound}
 use Rattle.rules.proofs.Spans.{Spanned, span-room}
 use Rattle.rules.proofs.Effects.{row-spanned}
 use Rattle.rules.proofs.Submitted.{submit-next}
@@ -160,12 +164,16 @@ clock-next {l} F a P = record {
       stop = λ m. ap (λ (r : List ℕ). stop r) (rows-same m);
     }
 
+-- ---- 8 Posting
+next-self : {l : List ℕ} → Formed l → Next l l
+next-self F = record { formed = F; hours = refl; rows = refl; used = omega arith }
+
 -- ---- every action
 -- kind and actor
 pub common-passed : (a : Action) → commonNumber true a ≡ 0 → (1 ≤ a .actor) × (a .actor ≤ mostEntity)
 unfolding commonNumber entity
 common-passed a e =
-    let k = gives-none (not (leb 1 (a .kind) && leb (a .kind) 7)) _ _ e in
+    let k = gives-none (not (leb 1 (a .kind) && leb (a .kind) 8)) _ _ e in
     let s = gives-none (not (leb 1 (a .actor) && leb (a .actor) mostEntity)) _ _ (k .1) in
     let t = not-false _ (s .0) in
     (leb-true _ _ (and-left _ _ t), leb-true _ _ (and-right (leb 1 (a .actor)) _ t))
@@ -183,7 +191,8 @@ kind-next {l} F w a actor =
     (next-choice (eqb (a .kind) 3) _ _ (λ e. customer-next F w a (customer-status-passed (hours l) l w a e))
     (next-choice (eqb (a .kind) 4) _ _ (λ e. approve-next F a (approve-passed (hours l) l a e))
     (next-choice (eqb (a .kind) 5) _ _ (λ e. reduce-next F w a (reduce-passed (hours l) l w a e))
-    (next-choice (eqb (a .kind) 6) _ _ (λ e. lapse-next F a (lapse-passed (hours l) l a e)) (λ e. clock-next F a (clock-passed l a e)))))))
+    (next-choice (eqb (a .kind) 6) _ _ (λ e. lapse-next F a (lapse-passed (hours l) l a e))
+    (next-choice (eqb (a .kind) 7) _ _ (λ e. clock-next F a (clock-passed l a e)) (λ e. next-self F)))))))
 
 -- ---- the last check: no available or displaced word over the bound
 -- the words of a profile's span are within the bound, so all of it is
@@ -232,37 +241,96 @@ last-passed : (H : ℕ) (l : List ℕ) → lastNumber H l ≡ 0 → carriesOver 
 unfolding lastNumber
 last-passed H l e = gives-none (carriesOver H l) _ _ e .0
 
+use-passed : (H : ℕ) (l : List ℕ) (a : Action) (next ps : List ℕ) → useNumber H l a next ps ≡ 0 → overUse H l a next ps ≡ false
+unfolding useNumber
+use-passed H l a next ps e = gives-none (overUse H l a next ps) _ _ e .0
+
 -- an accepted action's checks, one group after the other
-pub number-passed : (l w : List ℕ) (a : Action) → number true l w a ≡ 0 → (commonNumber true a ≡ 0) × (kindNumber (hours l) l w a ≡ 0) × (carriesOver (hours l) (kindAfter (hours l) l w a) ≡ false)
+pub record NumberPassed (l ps w : List ℕ) (a : Action) : Type 0 where
+  pub common : commonNumber true a ≡ 0
+  pub kind : kindNumber (hours l) l w a ≡ 0
+  pub paths : overUse (hours l) l a (kindAfter (hours l) l w a) (postingsAfter (hours l) ps w a) ≡ false
+  pub last : carriesOver (hours l) (kindAfter (hours l) l w a) ≡ false
+
+pub number-passed : (l ps w : List ℕ) (a : Action) → number true l ps w a ≡ 0 → NumberPassed l ps w a
 unfolding number soundNumber
-number-passed l w a e =
+number-passed l ps w a e =
     let c = or-else-none (commonNumber true a) _ e in
     let k = or-else-none (kindNumber (hours l) l w a) _ (c .1) in
-    (c .0, k .0, last-passed (hours l) (kindAfter (hours l) l w a) (k .1))
+    let u = or-else-none (useNumber (hours l) l a (kindAfter (hours l) l w a) (postingsAfter (hours l) ps w a)) _ (k .1) in
+    record {
+      common = c .0;
+      kind = k .0;
+      paths = use-passed (hours l) l a (kindAfter (hours l) l w a) (postingsAfter (hours l) ps w a) (u .0);
+      last = last-passed (hours l) (kindAfter (hours l) l w a) (u .1);
+    }
 
-pub sound-next : {l : List ℕ} → SoundLedger l → (w : List ℕ) (a : Action) → number true l w a ≡ 0 → SoundLedger (kindAfter (hours l) l w a)
-sound-next {l} s w a e =
-    let p = number-passed l w a e in
-    let n = kind-next (formed s) w a (common-passed a (p .0)) (p .1) in
-    sound-of (n .formed) (subst (λ (H : ℕ). carriesOver H (kindAfter (hours l) l w a) ≡ false) (sym (n .hours)) (p .2))
+-- what an action leaves that passed the checks of its kind and the one that is judged last
+pub left-sound : {l : List ℕ} → SoundLedger l → (w : List ℕ) (a : Action) → commonNumber true a ≡ 0 → kindNumber (hours l) l w a ≡ 0 → carriesOver (hours l) (kindAfter (hours l) l w a) ≡ false → SoundLedger (kindAfter (hours l) l w a)
+left-sound {l} s w a c k e =
+    let n = kind-next (formed s) w a (common-passed a c) k in
+    sound-of (n .formed) (subst (λ (H : ℕ). carriesOver H (kindAfter (hours l) l w a) ≡ false) (sym (n .hours)) e)
+
+pub sound-next : {l : List ℕ} → SoundLedger l → (ps w : List ℕ) (a : Action) → number true l ps w a ≡ 0 → SoundLedger (kindAfter (hours l) l w a)
+sound-next {l} s ps w a e =
+    let p = number-passed l ps w a e in
+    left-sound s w a (p .common) (p .kind) (p .last)
 
 -- rows, hours and the rows in use stay
-pub head-next : {l : List ℕ} → SoundLedger l → (w : List ℕ) (a : Action) → number true l w a ≡ 0 → Next l (kindAfter (hours l) l w a)
-head-next {l} s w a e =
-    let p = number-passed l w a e in
-    kind-next (formed s) w a (common-passed a (p .0)) (p .1)
+pub head-next : {l : List ℕ} → SoundLedger l → (ps w : List ℕ) (a : Action) → number true l ps w a ≡ 0 → Next l (kindAfter (hours l) l w a)
+head-next {l} s ps w a e =
+    let p = number-passed l ps w a e in
+    kind-next (formed s) w a (common-passed a (p .common)) (p .kind)
 
-pub sound-kept : (l w : List ℕ) (a : Action) → sound l ≡ true → number true l w a ≡ 0 → sound (kindAfter (hours l) l w a) ≡ true
-sound-kept l w a s e = facts-sound (sound-next (sound-facts s) w a e)
+pub sound-kept : (l ps w : List ℕ) (a : Action) → sound l ≡ true → number true l ps w a ≡ 0 → sound (kindAfter (hours l) l w a) ≡ true
+sound-kept l ps w a s e = facts-sound (sound-next (sound-facts s) ps w a e)
 
--- a refused action leaves the ledger as it was
-step-true : (l w : List ℕ) (a : Action) → sound l ≡ true → sound (step true l w a .ledger) ≡ true
-unfolding step accepted refused
-step-true l w a s = go (eqb (number true l w a) 0) refl
+-- the kind of an action that passed
+pub kind-passed : (a : Action) → commonNumber true a ≡ 0 → (1 ≤ a .kind) × (a .kind ≤ 8)
+unfolding commonNumber
+kind-passed a e =
+    let k = gives-none (not (leb 1 (a .kind) && leb (a .kind) 8)) _ _ e in
+    let t = not-false _ (k .0) in
+    (leb-true _ _ (and-left _ _ t), leb-true _ _ (and-right (leb 1 (a .kind)) _ t))
+
+-- a posting that passed
+pub post-kind : (H : ℕ) (l w : List ℕ) (a : Action) → a .kind ≡ 8 → kindNumber H l w a ≡ postNumber H l w a
+unfolding kindNumber
+post-kind H l w a q = ap (λ (k : ℕ). byKind k (submitNumber H l w a) (sellerNumber H l w a) (customerNumber H l w a) (approveNumber H l a) (reduceNumber H l w a) (lapseNumber H l a) (clockNumber l a) (postNumber H l w a)) q
+
+-- postings stay sound
+pub postings-kept : (l ps w : List ℕ) (a : Action) → kindNumber (hours l) l w a ≡ 0 → SoundPostings (hours l) ps → SoundPostings (hours l) (postingsAfter (hours l) ps w a)
+unfolding postingsAfter
+postings-kept l ps w a e S = go (eqb (a .kind) 8) refl
   where
-    go : (b : Bool) → eqb (number true l w a) 0 ≡ b → sound (pick b (accepted l w a (kindAfter (hours l) l w a)) (refused l (number true l w a)) .ledger) ≡ true
-    go true q = sound-kept l w a s (eqb-true _ _ q)
+    go : (b : Bool) → eqb (a .kind) 8 ≡ b → SoundPostings (hours l) (pick b (posted (hours l) ps w a) ps)
+    go true q = posted-sound S (post-passed (hours l) l w a (sym (post-kind (hours l) l w a (eqb-true _ _ q)) ∙ e))
+    go false q = S
+
+pub both-facts : (l ps : List ℕ) → soundBoth l ps ≡ true → (sound l ≡ true) × (soundPostings (hours l) ps ≡ true)
+unfolding soundBoth
+both-facts l ps e = (and-left _ _ e, and-right (sound l) _ e)
+
+facts-both : (l ps : List ℕ) → sound l ≡ true → soundPostings (hours l) ps ≡ true → soundBoth l ps ≡ true
+unfolding soundBoth
+facts-both l ps s p = ap (λ (b : Bool). b && soundPostings (hours l) ps) s ∙ p
+
+pub both-kept : (l ps w : List ℕ) (a : Action) → soundBoth l ps ≡ true → number true l ps w a ≡ 0 → soundBoth (kindAfter (hours l) l w a) (postingsAfter (hours l) ps w a) ≡ true
+both-kept l ps w a s e =
+    let f = both-facts l ps s in
+    let h = head-next (sound-facts (f .0)) ps w a e .hours in
+    facts-both _ _ (sound-kept l ps w a (f .0) e)
+    (subst (λ (H : ℕ). soundPostings H (postingsAfter (hours l) ps w a) ≡ true) (sym h)
+    (facts-postings (hours l) _ (postings-kept l ps w a (number-passed l ps w a e .kind) (postings-facts (hours l) ps (f .1)))))
+
+-- a refused action leaves the ledger and the postings as they were
+step-true : (l ps w : List ℕ) (a : Action) → soundBoth l ps ≡ true → soundBoth (step true l ps w a .ledger) (step true l ps w a .postings) ≡ true
+unfolding step accepted refused
+step-true l ps w a s = go (eqb (number true l ps w a) 0) refl
+  where
+    go : (b : Bool) → eqb (number true l ps w a) 0 ≡ b → soundBoth (pick b (accepted l ps w a (kindAfter (hours l) l w a)) (refused l ps (number true l ps w a)) .ledger) (pick b (accepted l ps w a (kindAfter (hours l) l w a)) (refused l ps (number true l ps w a)) .postings) ≡ true
+    go true q = both-kept l ps w a s (eqb-true _ _ q)
     go false q = s
 
-pub sound-step : (l w : List ℕ) (a : Action) → sound l ≡ true → sound (step (sound l) l w a .ledger) ≡ true
-sound-step l w a s = subst (λ (b : Bool). sound (step b l w a .ledger) ≡ true) (sym s) (step-true l w a s)
+pub sound-step : (l ps w : List ℕ) (a : Action) → soundBoth l ps ≡ true → soundBoth (step (soundBoth l ps) l ps w a .ledger) (step (soundBoth l ps) l ps w a .postings) ≡ true
+sound-step l ps w a s = subst (λ (b : Bool). soundBoth (step b l ps w a .ledger) (step b l ps w a .postings) ≡ true) (sym s) (step-true l ps w a s)

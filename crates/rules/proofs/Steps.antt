@@ -20,9 +20,10 @@ use Rattle.rules.specs.Moves.{isConfirmed}
 use Rattle.rules.specs.Megawatts.{takeFrom, returnsTo, giveBack}
 use Rattle.rules.specs.Confirming.{held, emptied, confirmOriginal, confirmDerived, confirmRelinquish, confirm, unconfirmed, drawnFrom, short}
 use Rattle.column.specs.Column.{Col, share, Off}
+use Rattle.column.specs.Use.{Tested}
 use Rattle.column.specs.Step.{OutStays, RedStays, Top, Child, Give, Step, top, child, give}
 use Rattle.rules.proofs.Seen.{Seen, at}
-use Rattle.rules.proofs.Writes.{words, megawatts, seen-taken, seen-given, seen-held, seen-emptied, covered-hour, returned, returned-granted, word-of, hour-of}
+use Rattle.rules.proofs.Writes.{words, megawatts, seen-taken, seen-given, seen-held, seen-emptied, covered-hour, returned, returned-available, returned-granted, word-of, hour-of}
 use Rattle.rules.proofs.Turned.{Turned, turned, kept-word, still}
 use Rattle.rules.proofs.View.{view}
 use Rattle.rules.proofs.Types.{original-type, derived-type}
@@ -30,7 +31,7 @@ use Rattle.rules.proofs.Placed.{Placed, above-row, over-row, room-for, 
 
 -- ---- by the row's type
 module _ (H n : ℕ) (mw l : List ℕ) where
-  is-top : 1 ≤ reqtype (row H l n) → reqtype (row H l n) ≤ 2 → confirmOriginal H n mw l ≡ confirm H n mw l
+  pub is-top : 1 ≤ reqtype (row H l n) → reqtype (row H l n) ≤ 2 → confirmOriginal H n mw l ≡ confirm H n mw l
   unfolding confirm
   is-top a b = sym (ap (λ (x : Bool). pick x (confirmOriginal H n mw l) (pick (eqb (reqtype (row H l n)) RELINQUISH) (confirmRelinquish H n mw l) (confirmDerived H n mw l))) (original-type (reqtype (row H l n)) a b))
 
@@ -38,11 +39,11 @@ module _ (H n : ℕ) (mw l : List ℕ) where
   unfolding confirm
   type-past t = sym (ap (λ (x : Bool). pick x (confirmOriginal H n mw l) (pick (eqb (reqtype (row H l n)) RELINQUISH) (confirmRelinquish H n mw l) (confirmDerived H n mw l))) (derived-type (reqtype (row H l n)) t))
 
-  is-child : 3 ≤ reqtype (row H l n) → reqtype (row H l n) ≢ RELINQUISH → confirmDerived H n mw l ≡ confirm H n mw l
+  pub is-child : 3 ≤ reqtype (row H l n) → reqtype (row H l n) ≢ RELINQUISH → confirmDerived H n mw l ≡ confirm H n mw l
   is-child t ne =
       sym (ap (λ (x : Bool). pick x (confirmRelinquish H n mw l) (confirmDerived H n mw l)) (ne-eqb (reqtype (row H l n)) RELINQUISH ne)) ∙ type-past t
 
-  is-give : reqtype (row H l n) ≡ RELINQUISH → confirmRelinquish H n mw l ≡ confirm H n mw l
+  pub is-give : reqtype (row H l n) ≡ RELINQUISH → confirmRelinquish H n mw l ≡ confirm H n mw l
   is-give e =
       sym (ap (λ (x : Bool). pick x (confirmRelinquish H n mw l) (confirmDerived H n mw l)) (eq-eqb (reqtype (row H l n)) RELINQUISH e)) ∙ type-past (omega (arith, e))
 
@@ -136,8 +137,18 @@ module _ {R H : ℕ} {l : List ℕ} {n : ℕ} (o : Placed R H l n) (mw : List �
     over-is : row H (confirmRelinquish H n mw l) q ≡ giveBack H s mw (row H l q)
     over-is = give-turned .other q (λ z. omega (arith, o .lower t8, o .lowest e8, z)) ∙ given-turned .own
 
+  -- what is then granted in hour h
+  pub top-granted : megawatts H h (row H (confirmOriginal H n mw l) n) grantedPart ≡ y
+  top-granted = hour-of (top-turned .own) (holds .1) grantedPart (lit< tt)
+
+  pub child-granted : 3 ≤ reqtype (row H l n) → megawatts H h (row H (confirmDerived H n mw l) n) grantedPart ≡ y
+  child-granted t = hour-of (child-turned t .own) (holds .1) grantedPart (lit< tt)
+
+  pub give-granted : reqtype (row H l n) ≡ RELINQUISH → megawatts H h (row H (confirmRelinquish H n mw l) n) grantedPart ≡ y
+  give-granted e = hour-of (give-turned e .own) (empties .1) grantedPart (lit< tt)
+
   module _ (out out′ : ℕ → ℕ → ℤ) (red red′ : ℕ → ℤ) (before : Off (status (row H l n))) where
-    top-of : reqtype (row H l n) ≤ 2
+    pub top-of : reqtype (row H l n) ≤ 2
         → OutStays (view H h l out red) (view H h (confirmOriginal H n mw l) out′ red′)
         → RedStays (view H h l out red) (view H h (confirmOriginal H n mw l) out′ red′)
         → Top (view H h l out red) (view H h (confirmOriginal H n mw l) out′ red′) n
@@ -145,7 +156,7 @@ module _ {R H : ℕ} {l : List ℕ} {n : ℕ} (o : Placed R H l n) (mw : List �
         let T = top-turned in
         let K = holds .1 in
         record {
-          keeps = record { used = T .head 6 (lit< tt); ty = kept-word T refl 0 (K .field 0 (lit< tt)); ref = kept-word T refl 4 (K .field 4 (lit< tt)) };
+          keeps = record { used = T .head 6 (lit< tt); ty = kept-word T refl 0 (K .field 0 (lit< tt)); ref = kept-word T refl 4 (K .field 4 (lit< tt)); path = kept-word T refl 11 (K .field 11 (lit< tt)) };
           in-use = o .in-use;
           type = t;
           before = before;
@@ -158,7 +169,7 @@ module _ {R H : ℕ} {l : List ℕ} {n : ℕ} (o : Placed R H l n) (mw : List �
         }
 
     module _ (ok : unconfirmed H l n ≡ false) (ample : short H l n mw ≡ false) where
-      child-of : (t : 3 ≤ reqtype (row H l n)) → reqtype (row H l n) ≢ RELINQUISH
+      pub child-of : (t : 3 ≤ reqtype (row H l n)) → reqtype (row H l n) ≢ RELINQUISH
           → ((k m : ℕ) → out′ k m ≡ out k m +ℤ pos (share k (reqtype (row H l n)) (related (row H l n)) m (megawatts H h (row H (confirmDerived H n mw l) n) grantedPart)))
           → RedStays (view H h l out red) (view H h (confirmDerived H n mw l) out′ red′)
           → Child (view H h l out red) (view H h (confirmDerived H n mw l) out′ red′) n p
@@ -173,6 +184,7 @@ module _ {R H : ℕ} {l : List ℕ} {n : ℕ} (o : Placed R H l n) (mw : List �
               used = T2 .head 6 (lit< tt) ∙ T1 .head 6 (lit< tt);
               ty = λ m. kept-word T2 E 0 (K .field 0 (lit< tt)) m ∙ kept-word T1 refl 0 (takes t .field 0 (lit< tt)) m;
               ref = λ m. kept-word T2 E 4 (K .field 4 (lit< tt)) m ∙ kept-word T1 refl 4 (takes t .field 4 (lit< tt)) m;
+              path = λ m. kept-word T2 E 11 (K .field 11 (lit< tt)) m ∙ kept-word T1 refl 11 (takes t .field 11 (lit< tt)) m;
             };
             in-use = o .in-use;
             parent = o .above t;
@@ -191,7 +203,7 @@ module _ {R H : ℕ} {l : List ℕ} {n : ℕ} (o : Placed R H l n) (mw : List �
             reds = reds;
           }
 
-      give-of : (e : reqtype (row H l n) ≡ RELINQUISH)
+      pub give-of : (e : reqtype (row H l n) ≡ RELINQUISH)
           → ((k m : ℕ) → out′ k m ≡ out k m +ℤ pos (share k (reqtype (row H l n)) (related (row H l n)) m (megawatts H h (row H (confirmRelinquish H n mw l) n) grantedPart)) +ℤ negℤ (pos (share k (reqtype (row H l p)) (related (row H l p)) m (megawatts H h (row H (confirmRelinquish H n mw l) n) grantedPart))))
           → RedStays (view H h l out red) (view H h (confirmRelinquish H n mw l) out′ red′)
           → Give (view H h l out red) (view H h (confirmRelinquish H n mw l) out′ red′) n p q
@@ -210,6 +222,7 @@ module _ {R H : ℕ} {l : List ℕ} {n : ℕ} (o : Placed R H l n) (mw : List �
               used = T3 .head 6 (lit< tt) ∙ T2 .head 6 (lit< tt) ∙ T1 .head 6 (lit< tt);
               ty = λ m. kept-word T3 (own-kept e) 0 (K .field 0 (lit< tt)) m ∙ kept-word T2 (over-kept e) 0 (G .field 0 (lit< tt)) m ∙ kept-word T1 refl 0 (takes t .field 0 (lit< tt)) m;
               ref = λ m. kept-word T3 (own-kept e) 4 (K .field 4 (lit< tt)) m ∙ kept-word T2 (over-kept e) 4 (G .field 4 (lit< tt)) m ∙ kept-word T1 refl 4 (takes t .field 4 (lit< tt)) m;
+              path = λ m. kept-word T3 (own-kept e) 11 (K .field 11 (lit< tt)) m ∙ kept-word T2 (over-kept e) 11 (G .field 11 (lit< tt)) m ∙ kept-word T1 refl 11 (takes t .field 11 (lit< tt)) m;
             };
             in-use = o .in-use;
             parent = o .above t;
@@ -225,6 +238,7 @@ module _ {R H : ℕ} {l : List ℕ} {n : ℕ} (o : Placed R H l n) (mw : List �
             q-a = omega (arith, hour-of P (takes t) availablePart (lit< tt), own, enough t ample);
             q-d = hour-of P (takes t) displacedPart (lit< tt);
             p-st = word-of Q G 1 (lit< tt);
+            p-a = λ z. hour-of Q G availablePart (lit< tt) ∙ returned-available (megawatts H h (row H l q)) y (row H l q) z ∙ ap (λ (x : ℕ). megawatts H h (row H l q) availablePart + x) (sym own);
             p-g = hour-of Q G grantedPart (lit< tt) ∙ returned-granted (megawatts H h (row H l q)) _ (row H l q);
             p-ad = omega (arith, hour-of Q G availablePart (lit< tt), hour-of Q G displacedPart (lit< tt), own, returned (megawatts H h (row H l q)) y (row H l q));
             rest = λ m nn np nq. still H h l (confirmRelinquish H n mw l) out out′ red red′ m (T3 .other m nn ∙ T2 .other m nq ∙ T1 .other m np);
@@ -232,30 +246,32 @@ module _ {R H : ℕ} {l : List ℕ} {n : ℕ} (o : Placed R H l n) (mw : List �
             reds = reds;
           }
 
--- what the tally does at a confirmation of row n, whose related row is p: nothing for types 1 and 2; for others granted is added, and type 8 takes it off what the redirect was counted in
-pub record Tallied (S S′ : Col) (n p : ℕ) : Type 0 where
+-- what is tested of the paths at a confirmation of row n, whose related row is p, and what the tally does: nothing for
+-- types 1 and 2; for others granted is added, and type 8 takes it off what the redirect was counted in
+pub record Tallied (B : ℕ → ℕ) (S S′ : Col) (n p : ℕ) : Type 0 where
+  pub paths : Tested B S S′ n
   pub tops : S .ty n ≤ 2 → OutStays S S′
   pub children : 3 ≤ S .ty n → S .ty n ≢ RELINQUISH → (k m : ℕ) → S′ .out k m ≡ S .out k m +ℤ pos (share k (S .ty n) (S .ref n) m (S′ .g n))
   pub givers : S .ty n ≡ RELINQUISH → (k m : ℕ) → S′ .out k m ≡ S .out k m +ℤ pos (share k (S .ty n) (S .ref n) m (S′ .g n)) +ℤ negℤ (pos (share k (S .ty p) (S .ref p) m (S′ .g n)))
   pub reds : RedStays S S′
 
 module _ {R H : ℕ} {l : List ℕ} {n : ℕ} (o : Placed R H l n) (before : Off (status (row H l n))) (mw : List ℕ) (long : length mw ≡ spanHours (row H l n))
-    (ok : unconfirmed H l n ≡ false) (ample : short H l n mw ≡ false) {h : ℕ} (hlt : h < H) where
+    (ok : unconfirmed H l n ≡ false) (ample : short H l n mw ≡ false) {h : ℕ} (hlt : h < H) {B : ℕ → ℕ} where
   -- confirming is a step of every hour's column
   pub confirm-at : (out out′ : ℕ → ℕ → ℤ) (red red′ : ℕ → ℤ)
-      → Tallied (view H h l out red) (view H h (confirm H n mw l) out′ red′) n (relatedRow H l n)
-      → Step (view H h l out red) (view H h (confirm H n mw l) out′ red′)
+      → Tallied B (view H h l out red) (view H h (confirm H n mw l) out′ red′) n (relatedRow H l n)
+      → Step B (view H h l out red) (view H h (confirm H n mw l) out′ red′)
   confirm-at out out′ red red′ = go (lt-or-le (reqtype (row H l n)) 3) (ℕ-discrete (reqtype (row H l n)) RELINQUISH)
     where
       -- by the ledger that the row's type gives
       Goal : List ℕ → Type 0
-      Goal m = Tallied (view H h l out red) (view H h m out′ red′) n (relatedRow H l n) → Step (view H h l out red) (view H h m out′ red′)
+      Goal m = Tallied B (view H h l out red) (view H h m out′ red′) n (relatedRow H l n) → Step B (view H h l out red) (view H h m out′ red′)
 
       go : (reqtype (row H l n) < 3) ⊎ (3 ≤ reqtype (row H l n)) → Dec (reqtype (row H l n) ≡ RELINQUISH) → Goal (confirm H n mw l)
       go (inl t) d =
           let low : reqtype (row H l n) ≤ 2 = omega (arith, t) in
-          subst Goal (is-top H n mw l (o .type-least) low) (λ a. top n (top-of o mw long hlt out out′ red red′ before low (a .tops low) (a .reds)))
+          subst Goal (is-top H n mw l (o .type-least) low) (λ a. top n (top-of o mw long hlt out out′ red red′ before low (a .tops low) (a .reds)) (a .paths))
       go (inr t) (yes e) =
-          subst Goal (is-give H n mw l e) (λ a. give n (relatedRow H l n) (relatedRow H l (relatedRow H l n)) (give-of o mw long hlt out out′ red red′ before ok ample e (a .givers e) (a .reds)))
+          subst Goal (is-give H n mw l e) (λ a. give n (relatedRow H l n) (relatedRow H l (relatedRow H l n)) (give-of o mw long hlt out out′ red red′ before ok ample e (a .givers e) (a .reds)) (a .paths))
       go (inr t) (no ne) =
-          subst Goal (is-child H n mw l t ne) (λ a. child n (relatedRow H l n) (child-of o mw long hlt out out′ red red′ before ok ample t ne (a .children t ne) (a .reds)))
+          subst Goal (is-child H n mw l t ne) (λ a. child n (relatedRow H l n) (child-of o mw long hlt out out′ red red′ before ok ample t ne (a .children t ne) (a .reds)) (a .paths))

@@ -29,8 +29,8 @@ use Rattle.rules.proofs.Submitted.{submit-opens, new-field}
 use Rattle.rules.proofs.Begins.{NewRelation, submit-step}
 use Rattle.rules.proofs.TallyLaws.{opened-own, opened-other, opened-out, opened-red}
 use Rattle.rules.proofs.Entries.{new-agrees}
-use Rattle.rules.proofs.Good.{Agrees, GoodAt, Good}
-use Rattle.rules.proofs.Keeping.{Ordered, stepped, ordered}
+use Rattle.rules.proofs.Good.{Agrees, Ordered, GoodAt, Good}
+use Rattle.rules.proofs.Keeping.{stepped, ordered}
 use Rattle.rules.proofs.Answers.{AnswerOf, answer-counts}
 
 -- what the relations of a new row are
@@ -42,7 +42,7 @@ new-relation {H} {l} {w} {a} P = record {
   others = λ least ne. P .derived least .others ne;
 }
 
-module _ {l : List ℕ} {t : Tally} (G : Good l t) (w : List ℕ) (a : Action) (P : SubmitPassed (hours l) l w a) (S : SoundLedger (submitAfter (hours l) l w a))
+module _ {B : ℕ → ℕ → ℕ} {l : List ℕ} {t : Tally} (G : Good B l t) (w : List ℕ) (a : Action) (P : SubmitPassed (hours l) l w a) (S : SoundLedger (submitAfter (hours l) l w a))
     {answer : Answer} (A : AnswerOf answer (used l + 1) 0 (status (row (hours l) (submitAfter (hours l) l w a) (used l)))) (k : a .kind ≡ 1) where
   abbrev H : ℕ
   H = hours l
@@ -93,25 +93,24 @@ module _ {l : List ℕ} {t : Tally} (G : Good l t) (w : List ℕ) (a : Action) (
           subst (λ (r : List ℕ). Agrees H r (fed (suc n))) (sym (O .other n ne))
           (subst (λ (e : Entry). Agrees H (row H l n) e) (sym (other (suc n) (λ e. ne (omega (arith, e))))) (G .good .entries n (omega (arith, ne))))
 
-  column : (h : ℕ) → h < H → Ordered (view H h l′ (outOf fed h) (redOf fed h))
+  column : (h : ℕ) → h < H → Ordered (B h) (view H h l′ (outOf fed h) (redOf fed h))
   column h hlt =
-      let B = ordered G h hlt in
+      let C = ordered G h hlt in
       stepped (submit-step F left w a (omega (arith, profile-length (P .profile), P .starts, P .stops)) (new-relation P) hlt (outOf t h) (outOf fed h) (redOf t h) (redOf fed h)
-      (record { out = λ j m. opened-out a w answer t count k (used l) reference h (unused-out (B .shape) (B .inv)) j m })
-      (record { red = λ m. opened-red a w answer t count k (used l) reference h (unused-red (B .shape) (B .inv)) m }))
-      B
+      (record { out = λ j m. opened-out a w answer t count k (used l) reference h (unused-out (C .shape) (C .inv)) j m })
+      (record { red = λ m. opened-red a w answer t count k (used l) reference h (unused-red (C .shape) (C .inv)) m }))
+      C
 
   more : used l′ ≡ suc (used l)
   more = let e : used l + 1 ≡ suc (used l) = omega arith in O .more ∙ e
 
-  submit-kept : Good l′ fed
+  submit-kept : Good B l′ fed
   submit-kept = record {
     sound = S;
-    good = subst (λ (J : ℕ). GoodAt J l′ fed) (sym (O .head 1 (lit< tt) (λ e. omega (arith, e)))) (record {
+    good = subst (λ (J : ℕ). GoodAt B J l′ fed) (sym (O .head 1 (lit< tt) (λ e. omega (arith, e)))) (record {
       entries = λ n lt. entry n (omega (arith, more));
       others = λ q z. ap (λ (e : Entry). e .reqtype) (other q (λ e. apart q e z)) ∙ G .good .others q (⊎-elim (λ u. inl u) (λ u. inr (omega (arith, u, more))) z);
-      shape = λ h hlt. column h hlt .shape;
-      inv = λ h hlt. column h hlt .inv;
+      columns = column;
     });
   }
     where
@@ -119,6 +118,6 @@ module _ {l : List ℕ} {t : Tally} (G : Good l t) (w : List ℕ) (a : Action) (
       apart q e (inl u) = omega (arith, e, u)
       apart q e (inr u) = omega (arith, e, u, more)
 
-pub submit-good : {l : List ℕ} {t : Tally} → Good l t → (w : List ℕ) (a : Action) → SubmitPassed (hours l) l w a → SoundLedger (submitAfter (hours l) l w a)
-    → {answer : Answer} → AnswerOf answer (used l + 1) 0 (status (row (hours l) (submitAfter (hours l) l w a) (used l))) → a .kind ≡ 1 → Good (submitAfter (hours l) l w a) (feed a w answer t)
+pub submit-good : {B : ℕ → ℕ → ℕ} {l : List ℕ} {t : Tally} → Good B l t → (w : List ℕ) (a : Action) → SubmitPassed (hours l) l w a → SoundLedger (submitAfter (hours l) l w a)
+    → {answer : Answer} → AnswerOf answer (used l + 1) 0 (status (row (hours l) (submitAfter (hours l) l w a) (used l))) → a .kind ≡ 1 → Good B (submitAfter (hours l) l w a) (feed a w answer t)
 submit-good G w a P S A k = submit-kept G w a P S A k

@@ -27,7 +27,7 @@ module _ {H : ℕ} {l w : List ℕ} {a : Action} (P : SubmitPassed H l w a) (r :
   new-room : Room H (a .start) (profile w a) (splice r 0 (newWords a))
   new-room = record { long = splice-new H r w a long; fits = omega (arith, profile-length (P .profile), P .starts, P .stops) }
 
-  pub new-field : (k : ℕ) → k < 9 → getD (newRow H w a r) k 0 ≡ getD (newWords a) k 0
+  pub new-field : (k : ℕ) → k < 12 → getD (newRow H w a r) k 0 ≡ getD (newWords a) k 0
   unfolding newRow
   new-field k lt =
       let z : k ≡ 0 + k = omega arith in
@@ -35,11 +35,11 @@ module _ {H : ℕ} {l w : List ℕ} {a : Action} (P : SubmitPassed H l w a) (r :
       ∙ ap (λ (i : ℕ). getD (splice r 0 (newWords a)) i 0) z
       ∙ splice-in r 0 (newWords a) (omega (arith, new-words-length a, long)) k (omega (arith, new-words-length a))
 
-  past-words : (k : ℕ) → 9 ≤ k → getD (splice r 0 (newWords a)) k 0 ≡ getD r k 0
+  past-words : (k : ℕ) → 12 ≤ k → getD (splice r 0 (newWords a)) k 0 ≡ getD r k 0
   past-words k le = splice-after r 0 (newWords a) (omega (arith, new-words-length a, long)) k (omega (arith, new-words-length a))
 
   module _ (zero : (k : ℕ) → getD r k 0 ≡ 0) where
-    pub new-rest : (k : ℕ) → 9 ≤ k → k < rowWords → getD (newRow H w a r) k 0 ≡ 0
+    pub new-rest : (k : ℕ) → 12 ≤ k → k < rowWords → getD (newRow H w a r) k 0 ≡ 0
     unfolding newRow
     new-rest k le lt = written-field new-room {p = requestedPart} (lit< tt) k lt ∙ past-words k le ∙ zero k
 
@@ -87,8 +87,9 @@ module _ {H : ℕ} {l w : List ℕ} {a : Action} (P : SubmitPassed H l w a) (r :
       stops = omega (arith, new-stop, P .stops);
       flags = omega (arith, new-field 7 (lit< tt), P .flags);
       bid = omega (arith, new-field 8 (lit< tt), P .price);
-      offer = omega (arith, new-rest 9 (omega arith) (lit< tt));
-      limit = omega (arith, new-rest 10 (omega arith) (lit< tt));
+      offer = omega (arith, new-field 9 (lit< tt));
+      limit = omega (arith, new-field 10 (lit< tt));
+      path = (omega (arith, new-field 11 (lit< tt), P .path), omega (arith, new-field 11 (lit< tt), P .path));
       rest = λ k least most. new-rest k (omega arith) most;
     }
 

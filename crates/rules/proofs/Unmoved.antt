@@ -1,4 +1,5 @@
--- A write in a row that moves no megawatts: it keeps type, related reference, span, available and displaced, all that confirming and the last check read of the row.
+-- A write in a row that moves no megawatts: it keeps type, related reference, span, path, available and displaced, all
+-- that confirming and the checks of paths and of the last 1 read of the row.
 use mathlib.Core.Path.{_≡_, refl, sym, ap, _∙_}
 use mathlib.Core.Logic.{_≢_}
 use mathlib.Core.Bool.{Bool, true, false, _||_}
@@ -11,7 +12,7 @@ use lib.Seq.{getD-set-other}
 use Rattle.words.proofs.Laws.{splice-before, splice-after}
 use Rattle.rules.specs.Pick.{when}
 use Rattle.rules.specs.Numbers.{rowWords, grantedPart, availablePart, displacedPart, requestedPart, grantedGiven, offerGiven}
-use Rattle.rules.specs.Layout.{rowSize, row, onRow, rowOf, relatedRow, Sized, reqtype, related, start, stop, flags, flagged, raise, setStatus, hourAt, setHours}
+use Rattle.rules.specs.Layout.{rowSize, row, onRow, rowOf, relatedRow, Sized, reqtype, related, start, stop, path, flags, flagged, raise, setStatus, hourAt, setHours}
 use Rattle.rules.specs.Megawatts.{grant}
 use Rattle.rules.specs.Checks.{profile, comes}
 use Rattle.rules.specs.SellerStatus.{accepts, offered}
@@ -27,6 +28,7 @@ pub record Unmoved (H : ℕ) (r q : List ℕ) : Type 0 where
   pub same-related : related q ≡ related r
   pub same-start : start q ≡ start r
   pub same-stop : stop q ≡ stop r
+  pub same-path : path q ≡ path r
   pub same-available : (h : ℕ) → h < H → getD q (hourAt H availablePart h) 0 ≡ getD r (hourAt H availablePart h) 0
   pub same-displaced : (h : ℕ) → h < H → getD q (hourAt H displacedPart h) 0 ≡ getD r (hourAt H displacedPart h) 0
 
@@ -38,6 +40,7 @@ unmoved-self e = record {
   same-related = refl;
   same-start = refl;
   same-stop = refl;
+  same-path = refl;
   same-available = λ h lt. refl;
   same-displaced = λ h lt. refl;
 }
@@ -49,6 +52,7 @@ unmoved-then a b = record {
   same-related = b .same-related ∙ a .same-related;
   same-start = b .same-start ∙ a .same-start;
   same-stop = b .same-stop ∙ a .same-stop;
+  same-path = b .same-path ∙ a .same-path;
   same-available = λ h lt. b .same-available h lt ∙ a .same-available h lt;
   same-displaced = λ h lt. b .same-displaced h lt ∙ a .same-displaced h lt;
 }
@@ -60,13 +64,14 @@ unmoved-when false f e q = unmoved-self e
 
 module _ {H : ℕ} {r : List ℕ} (e : length r ≡ rowSize H) where
   -- a word of the sixteen
-  pub unmoved-set : (k v : ℕ) → k < rowWords → k ≢ 0 → k ≢ 4 → k ≢ 5 → k ≢ 6 → Unmoved H r (set r k v)
-  unmoved-set k v lt n0 n4 n5 n6 = record {
+  pub unmoved-set : (k v : ℕ) → k < rowWords → k ≢ 0 → k ≢ 4 → k ≢ 5 → k ≢ 6 → k ≢ 11 → Unmoved H r (set r k v)
+  unmoved-set k v lt n0 n4 n5 n6 n11 = record {
     long = length-set r k v ∙ e;
     same-type = getD-set-other r k 0 v 0 (λ z. n0 (sym z));
     same-related = getD-set-other r k 4 v 0 (λ z. n4 (sym z));
     same-start = getD-set-other r k 5 v 0 (λ z. n5 (sym z));
     same-stop = getD-set-other r k 6 v 0 (λ z. n6 (sym z));
+    same-path = getD-set-other r k 11 v 0 (λ z. n11 (sym z));
     same-available = λ h hlt. getD-set-other r k (hourAt H availablePart h) v 0 (λ z. omega (arith, z, lt));
     same-displaced = λ h hlt. getD-set-other r k (hourAt H displacedPart h) v 0 (λ z. omega (arith, z, lt));
   }
@@ -80,6 +85,7 @@ module _ {H : ℕ} {r : List ℕ} (e : length r ≡ rowSize H) where
     same-related = splice-before r (hourAt H p s) v room 4 (omega arith);
     same-start = splice-before r (hourAt H p s) v room 5 (omega arith);
     same-stop = splice-before r (hourAt H p s) v room 6 (omega arith);
+    same-path = splice-before r (hourAt H p s) v room 11 (omega arith);
     same-available = λ h hlt. splice-after r (hourAt H p s) v room (hourAt H availablePart h) (omega (arith, hour-apart H plt, fits));
     same-displaced = λ h hlt. splice-after r (hourAt H p s) v room (hourAt H displacedPart h) (omega (arith, hour-apart H plt, fits));
   }
@@ -93,11 +99,11 @@ module _ {H : ℕ} {r : List ℕ} (e : length r ≡ rowSize H) where
 -- ---- the rules' own such writes
 module _ {H : ℕ} {r : List ℕ} (e : length r ≡ rowSize H) where
   pub unmoved-status : (s : ℕ) → Unmoved H r (setStatus s r)
-  unmoved-status s = unmoved-set e 1 s (lit< tt) (λ z. omega (arith, z)) (λ z. omega (arith, z)) (λ z. omega (arith, z)) (λ z. omega (arith, z))
+  unmoved-status s = unmoved-set e 1 s (lit< tt) (λ z. omega (arith, z)) (λ z. omega (arith, z)) (λ z. omega (arith, z)) (λ z. omega (arith, z)) (λ z. omega (arith, z))
 
   -- flags, prices, limit
-  pub unmoved-later : (k v : ℕ) → 6 < k → k < rowWords → Unmoved H r (set r k v)
-  unmoved-later k v low lt = unmoved-set e k v lt (λ z. omega (arith, z)) (λ z. omega (arith, z)) (λ z. omega (arith, z)) (λ z. omega (arith, z))
+  pub unmoved-later : (k v : ℕ) → 6 < k → k < 11 → Unmoved H r (set r k v)
+  unmoved-later k v low lt = unmoved-set e k v (omega (arith, lt)) (λ z. omega (arith, z)) (λ z. omega (arith, z)) (λ z. omega (arith, z)) (λ z. omega (arith, z)) (λ z. omega (arith, z))
 
   pub unmoved-raise : (flag : ℕ) → Unmoved H r (raise flag r)
   unmoved-raise flag = unmoved-later 7 (flagged flag (flags r)) (lit< tt) (lit< tt)
@@ -138,6 +144,9 @@ module _ {R H : ℕ} {l : List ℕ} {n : ℕ} (z : Sized l R H) (lt : n < R) (f 
 
   pub stops-stay : (m : ℕ) → stop (row H (onRow H n f l) m) ≡ stop (row H l m)
   stops-stay = kept-word unmoved-turned refl 6 (q .same-stop)
+
+  pub paths-stay : (m : ℕ) → path (row H (onRow H n f l) m) ≡ path (row H l m)
+  paths-stay = kept-word unmoved-turned refl 11 (q .same-path)
 
   pub related-stays : (m : ℕ) → relatedRow H (onRow H n f l) m ≡ relatedRow H l m
   unfolding relatedRow

@@ -7,7 +7,7 @@ use Rattle.words.specs.Lists.{wordAt}
 use Rattle.column.specs.Column.{Col}
 use Rattle.rules.specs.Pick.{pick}
 use Rattle.rules.specs.Numbers.{grantedPart, availablePart, displacedPart}
-use Rattle.rules.specs.Layout.{used, row, reqtype, status, related, hourAt}
+use Rattle.rules.specs.Layout.{used, row, reqtype, status, related, path, hourAt}
 use Rattle.rules.specs.Tally.{Tally, reducedSum}
 
 -- out k n is sum k of row n's entry (resold, redirected, transferred, relinquished), red n its reduced
@@ -17,6 +17,7 @@ view H h l out red = record {
   ty = λ n. reqtype (row H l n);
   st = λ n. status (row H l n);
   ref = λ n. related (row H l n);
+  path = λ n. path (row H l n);
   g = λ n. wordAt (row H l n) (hourAt H grantedPart h);
   a = λ n. wordAt (row H l n) (hourAt H availablePart h);
   d = λ n. wordAt (row H l n) (hourAt H displacedPart h);

@@ -5,6 +5,7 @@ use mathlib.Core.Bool.{Bool, true, false}
 use mathlib.Core.List.{List}
 use Prim.Native.Nat.{ℕ, _+_, _-_, _≤_, _<_}
 use native.Mathlib.Omega.{arith}
+use borrow.Author.Tests.{eq-eqb}
 use lib.Dec.{eqb, lit<}
 use lib.ListN.{length, getD}
 use Rattle.words.specs.Lists.{covered}
@@ -82,6 +83,11 @@ returned x z r = go (isConfirmed r)
     go : (t : Bool) → at x (pick t availablePart displacedPart) (x (pick t availablePart displacedPart) + z) availablePart + at x (pick t availablePart displacedPart) (x (pick t availablePart displacedPart) + z) displacedPart ≡ x availablePart + x displacedPart + z
     go true = omega arith
     go false = omega arith
+
+-- to available, where the row is CONFIRMED
+pub returned-available : (x : ℕ → ℕ) (z : ℕ) (r : List ℕ) → status r ≡ 13 → at x (returnsTo r) (x (returnsTo r) + z) availablePart ≡ x availablePart + z
+unfolding returnsTo isConfirmed
+returned-available x z r e = ap (λ (t : Bool). at x (pick t availablePart displacedPart) (x (pick t availablePart displacedPart) + z) availablePart) (eq-eqb (status r) 13 e)
 
 pub returned-granted : (x : ℕ → ℕ) (z : ℕ) (r : List ℕ) → at x (returnsTo r) z grantedPart ≡ x grantedPart
 unfolding returnsTo

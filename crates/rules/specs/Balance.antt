@@ -81,8 +81,8 @@ pub record Balanced (l : List ℕ) (t : Tally) : Type 0 where
 abbrev pub BalancedRun : Run → Type 0
 BalancedRun run = Balanced (run .ledger) (tally (run .done))
 
--- for all creation numbers that creation accepts, and every list of calls
+-- for all creation numbers that creation accepts, whatever is posted, and every list of calls
 abbrev pub Demand3 : Type 0
 Demand3 =
     (R H provider window base : ℕ) → goodNumbers R H provider window base ≡ true →
-    (calls : List Call) → BalancedRun (runCalls (fresh R H provider window base) calls)
+    (ps : List ℕ) (calls : List Call) → BalancedRun (runCalls (fresh R H provider window base) ps calls)

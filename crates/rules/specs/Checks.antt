@@ -2,11 +2,11 @@
 use mathlib.Core.Bool.{Bool, _&&_, _||_, not}
 use mathlib.Core.List.{List}
 use Prim.Native.Nat.{ℕ, _+_}
-use lib.Dec.{eqb, ltb}
+use lib.Dec.{eqb, leb, ltb}
 use lib.ListN.{length}
 use Rattle.words.specs.Lists.{part, within, zeros}
 use Rattle.rules.specs.Pick.{_isFrom_to_}
-use Rattle.rules.specs.Numbers.{mostPrice, mostMegawatts, mostStatus, preconfirmed}
+use Rattle.rules.specs.Numbers.{mostPrice, mostMegawatts, mostStatus, mostPath, preconfirmed}
 use Rattle.rules.specs.Layout.{provider, issued, rowOf, row, status, spanHours, has}
 use Rattle.rules.specs.Megawatts.{inForce}
 use Rattle.rules.specs.Confirming.{confirmNumber}
@@ -26,15 +26,27 @@ profile w a = part w (a .offset) (a .length)
 unfoldable pub comes : Action → Bool
 comes a = not (eqb (a .length) 0)
 
--- 7: profile outside its slice, length not n, a word over 100,000, or all 0
-unfoldable pub badProfile : List ℕ → Action → ℕ → Bool
-badProfile w a n =
+-- 7: profile outside its slice, length not n, or a word over 100,000
+unfoldable pub badWords : List ℕ → Action → ℕ → Bool
+badWords w a n =
     ltb (length w) (a .offset + a .length) || (not (eqb (a .length) n)
-    || (not (within mostMegawatts (profile w a)) || zeros (profile w a)))
+    || not (within mostMegawatts (profile w a)))
+
+-- 7: such a profile, or all 0
+unfoldable pub badProfile : List ℕ → Action → ℕ → Bool
+badProfile w a n = badWords w a n || zeros (profile w a)
 
 -- 7, unless length 0
 unfoldable pub badIfComes : List ℕ → Action → List ℕ → Bool
 badIfComes w a r = comes a && badProfile w a (spanHours r)
+
+-- 6: not start < stop ≤ H
+unfoldable pub badSpan : ℕ → Action → Bool
+badSpan H a = not (ltb (a .start) (a .stop) && leb (a .stop) H)
+
+-- 21: path not 1 to 64
+unfoldable pub unknownPath : Action → Bool
+unknownPath a = not (a .path isFrom 1 to mostPath)
 
 -- 12: price too high
 unfoldable pub badPrice : Action → Bool

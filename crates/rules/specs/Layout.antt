@@ -95,6 +95,9 @@ offer r = wordAt r 9
 abbrev pub limit : List ℕ → ℕ
 limit r = wordAt r 10
 
+abbrev pub path : List ℕ → ℕ
+path r = wordAt r 11
+
 abbrev pub setStatus : ℕ → List ℕ → List ℕ
 setStatus v r = set r 1 v
 

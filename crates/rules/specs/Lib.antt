@@ -14,10 +14,13 @@ pub mod Approve
 pub mod Reduce
 pub mod Lapse
 pub mod Clock
+pub mod Paths
+pub mod Post
 pub mod Act
 pub mod Calls
 pub mod Tally
 pub mod Balance
+pub mod Limits
 pub mod ReadOut
 pub mod Day
 pub mod Rules

@@ -11,7 +11,7 @@ abbrev pub rowWords : ℕ
 rowWords = 16
 
 abbrev pub usedWords : ℕ
-usedWords = 11
+usedWords = 12
 
 abbrev pub profiles : ℕ
 profiles = 4
@@ -35,11 +35,17 @@ mostPrice = 99999999
 abbrev pub mostMegawatts : ℕ
 mostMegawatts = 100000
 
+abbrev pub mostKind : ℕ
+mostKind = 8
+
 abbrev pub mostType : ℕ
 mostType = 8
 
 abbrev pub mostStatus : ℕ
 mostStatus = 17
+
+abbrev pub mostPath : ℕ
+mostPath = 64
 
 abbrev pub mostFlags : ℕ
 mostFlags = 31

@@ -6,8 +6,8 @@ use lib.Dec.{eqb, leb, ltb}
 use lib.ListN.{length, drop}
 use Rattle.words.specs.Lists.{part, allBelow, within, zeros}
 use Rattle.rules.specs.Pick.{pick, _isFrom_to_, _among_}
-use Rattle.rules.specs.Numbers.{rowWords, usedWords, profiles, mostType, mostStatus, mostPrice, mostMegawatts, mostFlags, endSecond, endLimit, entity, NONFIRM-REDIRECT, RELINQUISH}
-use Rattle.rules.specs.Layout.{rows, hours, provider, window, base, clock, used, headEnd, rowOf, rowBase, row, reqtype, status, customer, seller, related, start, stop, flags, bid, offer, limit, relatedRow, hoursOf, span}
+use Rattle.rules.specs.Numbers.{rowWords, usedWords, profiles, mostType, mostStatus, mostPrice, mostMegawatts, mostFlags, mostPath, endSecond, endLimit, entity, NONFIRM-REDIRECT, RELINQUISH}
+use Rattle.rules.specs.Layout.{rows, hours, provider, window, base, clock, used, headEnd, rowOf, rowBase, row, reqtype, status, customer, seller, related, start, stop, flags, bid, offer, limit, path, relatedRow, hoursOf, span}
 use Rattle.rules.specs.Create.{goodNumbers}
 
 -- ORIGINAL, firm and non-firm; those sold by the related row's customer: RESALE, PART_TRANSFER, FULL_TRANSFER; the two transfers; the two redirects
@@ -58,7 +58,8 @@ soundWords H r =
     reqtype r isFrom 1 to mostType && (status r isFrom 1 to mostStatus && (entity (customer r) && (entity (seller r)
     && (ltb (start r) (stop r) && (leb (stop r) H
     && (leb (flags r) mostFlags && (leb (bid r) mostPrice && (leb (offer r) mostPrice && (ltb (limit r) endLimit
-    && zeros (part r usedWords (rowWords - usedWords)))))))))))
+    && (path r isFrom 1 to mostPath
+    && zeros (part r usedWords (rowWords - usedWords))))))))))))
 
 -- a profile: words at most 100,000 in the span, and 0 outside it
 unfoldable pub soundProfile : ℕ → List ℕ → ℕ → Bool

@@ -20,6 +20,8 @@ pub struct Action {
     pub time: u32,
     pub offset: u32,
     pub length: u32,
+    // of a submission and of a posting
+    pub path: u32,
 }
 
 // A number (0: accepted), and of an accepted action its reference, the status before and after, and the MW-hours moved.

@@ -10,7 +10,10 @@ ghost use Rattle.rules.specs.SellerStatus.{grantedAfter, sellerNumber, otherAft
 ghost use Rattle.layout.specs.SoundAt.{SoundAt};
 ghost use Rattle.megawatts.specs.Placed.{Placed};
 ghost use Rattle.megawatts.specs.Named.{Named, Suits};
+ghost use Rattle.rules.proofs.Passed.{OfferPassed};
+ghost use Rattle.paths.specs.Exceeding.{Postings};
 ghost use Rattle.seller.specs.Offer.{overOffer, overOther};
+ghost use Rattle.seller.specs.Uses.{offerUses, sellerUses};
 use crate::number::annuls_confirmed;
 use crate::number::goes_on;
 use crate::number::offers;
@@ -28,6 +31,9 @@ use megawatts::moving::annul;
 use megawatts::moving::displace;
 use megawatts::moving::over_annulling;
 use megawatts::moving::over_displacing;
+use paths::exceeding::exceeds_annulling;
+use paths::exceeding::exceeds_confirming;
+use paths::exceeding::exceeds_confirming_own;
 use rules::Action;
 
 // A relinquish record that goes on to 13 gives back.
@@ -71,6 +77,57 @@ pub fn seller_over(l: &[u32], words: &[u32], rows: usize, hours: usize, a: Actio
         return over_offer(l, words, rows, hours, row.0, a);
     }
     over_other(l, rows, hours, row.0, a)
+}
+
+// A row that goes on to 13 would use more of a path than is posted.
+fn offer_uses(
+    l: &[u32],
+    postings: &[u32],
+    words: &[u32],
+    rows: usize,
+    hours: usize,
+    n: usize,
+    a: Action,
+) -> bool
+    requires { ⌜ SoundAt (now l) rows hours ⌝ }
+    requires { ⌜ Named (now l) rows hours a n ⌝ }
+    requires { ⌜ OfferPassed hours (now l) (now words) a ⌝ }
+    requires { ⌜ Postings hours (now postings) ⌝ }
+    ensures { λ b. ⌜ b ≡ offerUses hours (now (l .entry)) (now (words .entry)) a (now (postings .entry)) ⌝ }
+{
+    if !goes_on(l, rows, hours, n, a) {
+        return false;
+    }
+    if !comes(a) {
+        return exceeds_confirming_own(l, postings, rows, hours, n);
+    }
+    let from = a.offset as usize;
+    let count = a.length as usize;
+    exceeds_confirming(l, postings, rows, hours, n, &words[from..from + count])
+}
+
+// The move would use more of a path than is posted: where it confirms or annuls.
+pub fn seller_uses(
+    l: &[u32],
+    postings: &[u32],
+    words: &[u32],
+    rows: usize,
+    hours: usize,
+    a: Action,
+) -> bool
+    requires { ⌜ SoundAt (now l) rows hours ⌝ }
+    requires { ⌜ sellerNumber hours (now l) (now words) a ≡ 0 ⌝ }
+    requires { ⌜ Postings hours (now postings) ⌝ }
+    ensures { λ b. ⌜ b ≡ sellerUses hours (now (l .entry)) (now (words .entry)) a (now (postings .entry)) ⌝ }
+{
+    let row = named(a);
+    if offers(a) {
+        return offer_uses(l, postings, words, rows, hours, row.0, a);
+    }
+    if !annuls_confirmed(l, rows, hours, row.0, a) {
+        return false;
+    }
+    exceeds_annulling(l, postings, rows, hours, row.0)
 }
 
 // Row n is displaced, annulled, or has the status alone.

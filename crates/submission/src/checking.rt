@@ -10,11 +10,14 @@ ghost use Rattle.rules.specs.Layout.{Sized, issued, reqtype as typeOf};
 ghost use Rattle.rules.specs.Sound.{resold, redirect, firm as isFirm, relates as mayRelate, inside};
 ghost use Rattle.rules.specs.Moves.{isConfirmed};
 ghost use Rattle.rules.specs.Checks.{badProfile};
-ghost use Rattle.rules.specs.Submit.{badType, badSeller, badSpan, badFlags, goodRelated, badRelated, relatedCustomer, badParties, noRowLeft, submitNumber};
+ghost use Rattle.rules.specs.Submit.{badType, badSeller, badFlags, unfitPath, badPath, goodRelated, badRelated, relatedCustomer, badParties, noRowLeft, submitNumber};
 ghost use Rattle.layout.specs.SoundAt.{SoundAt};
 use checks::checks::bad_price;
 use checks::checks::bad_profile;
+use checks::checks::bad_span;
 use checks::checks::is_from;
+use checks::checks::span_asked;
+use checks::checks::unknown_path;
 use layout::class::firm;
 use layout::class::is_original;
 use layout::class::is_resold;
@@ -24,22 +27,27 @@ use layout::numbers::CONFIRMED;
 use layout::numbers::COORDINATED;
 use layout::numbers::CUSTOMER;
 use layout::numbers::FIRM_REDIRECT;
+use layout::numbers::FULL_TRANSFER;
 use layout::numbers::MOST_TYPE;
 use layout::numbers::NO_ROW_LEFT;
 use layout::numbers::NONFIRM_REDIRECT;
 use layout::numbers::ORIGINAL_FIRM;
 use layout::numbers::OUT_OF_RANGE;
+use layout::numbers::PART_TRANSFER;
+use layout::numbers::PATH;
 use layout::numbers::PRECONFIRMED;
 use layout::numbers::PROFILES;
 use layout::numbers::PROVIDER;
 use layout::numbers::RELINQUISH;
 use layout::numbers::REQTYPE;
+use layout::numbers::RESALE;
 use layout::numbers::ROW_WORDS;
 use layout::numbers::ROWS;
 use layout::numbers::STATUS;
 use layout::numbers::USED;
 use layout::numbers::WRONG_FLAGS;
 use layout::numbers::WRONG_PARTY;
+use layout::numbers::WRONG_PATH;
 use layout::numbers::WRONG_PRICE;
 use layout::numbers::WRONG_PROFILE;
 use layout::numbers::WRONG_RELATED;
@@ -69,23 +77,6 @@ fn bad_seller(a: Action) -> bool
     !is_entity(a.seller)
 }
 
-// 6: not start < stop ≤ H.
-fn bad_span(hours: usize, a: Action) -> bool
-    ensures { λ b. ⌜ b ≡ badSpan hours a ⌝ }
-{
-    !((a.start < a.stop) & (a.stop as usize <= hours))
-}
-
-// The hours from start up to, not including, stop.
-fn span_asked(a: Action) -> usize
-    ensures { λ r. ⌜ r ≡ a .stop - a .start ⌝ }
-{
-    if a.stop < a.start {
-        return 0;
-    }
-    (a.stop - a.start) as usize
-}
-
 // 7: profile outside its slice, length not stop − start, a word over 100,000, or all 0.
 fn bad_requested(words: &[u32], a: Action) -> bool
     ensures { λ b. ⌜ b ≡ badProfile (now (words .entry)) a (a .stop - a .start) ⌝ }
@@ -113,6 +104,40 @@ fn is_issued(l: &[u32], reference: u32) -> bool
     ensures { λ b. ⌜ b ≡ issued (now (l .entry)) reference ⌝ }
 {
     is_from(reference, 1, l[USED])
+}
+
+// Types 3, 6, 7, 8, which stay on the related row's path.
+fn is_bound(t: u32) -> bool
+    ensures { λ b. ⌜ b ≡ (t among (3 ∷ 6 ∷ 7 ∷ 8 ∷ [])) ⌝ }
+{
+    t == RESALE || (t == PART_TRANSFER || (t == FULL_TRANSFER || t == RELINQUISH))
+}
+
+// Such a type names an existing related row of another path.
+fn unfit_path(l: &[u32], rows: usize, hours: usize, a: Action) -> bool
+    requires { ⌜ SoundAt (now l) rows hours ⌝ }
+    ensures { λ b. ⌜ b ≡ unfitPath hours (now (l .entry)) a ⌝ }
+{
+    if !is_bound(a.reqtype) {
+        return false;
+    }
+    if !is_issued(l, a.related) {
+        return false;
+    }
+    let n = rules::row_of(Reference(a.related));
+    let own = word_at(l, rows, hours, n.0, PATH);
+    a.path != own
+}
+
+// 21: an unknown path, or an unfit one.
+fn bad_path(l: &[u32], rows: usize, hours: usize, a: Action) -> bool
+    requires { ⌜ SoundAt (now l) rows hours ⌝ }
+    ensures { λ b. ⌜ b ≡ badPath hours (now (l .entry)) a ⌝ }
+{
+    if unknown_path(a) {
+        return true;
+    }
+    unfit_path(l, rows, hours, a)
 }
 
 // A redirect is of a firm row; the other types ask nothing of row n here.
@@ -227,6 +252,9 @@ pub fn submit_number(l: &[u32], words: &[u32], rows: usize, hours: usize, a: Act
     }
     if bad_flags(a) {
         return WRONG_FLAGS;
+    }
+    if bad_path(l, rows, hours, a) {
+        return WRONG_PATH;
     }
     if bad_price(a) {
         return WRONG_PRICE;

@@ -11,6 +11,9 @@ ghost use Rattle.layout.specs.SoundAt.{SoundAt};
 use layout::numbers::BID;
 use layout::numbers::CUSTOMER;
 use layout::numbers::FLAGS;
+use layout::numbers::LIMIT;
+use layout::numbers::OFFER;
+use layout::numbers::PATH;
 use layout::numbers::PROFILES;
 use layout::numbers::QUEUED;
 use layout::numbers::RELATED;
@@ -26,7 +29,7 @@ use layout::rows::row_at;
 use layout::rows::set_hours;
 use rules::Action;
 
-// Status 1, the actor as customer, the price as bid.
+// Status 1, the actor as customer, the price as bid, the path.
 fn write_words(r: &mut [u32], a: Action)
     requires { ⌜ rowWords ≤ length (now r) ⌝ }
     ensures { λ _. ⌜ now (r .exit) ≡ splice (now (r .entry)) 0 (newWords a) ⌝ }
@@ -40,6 +43,9 @@ fn write_words(r: &mut [u32], a: Action)
     r[STOP] = a.stop;
     r[FLAGS] = a.flags;
     r[BID] = a.price;
+    r[OFFER] = 0;
+    r[LIMIT] = 0;
+    r[PATH] = a.path;
 }
 
 // The words, and the profile as requested. The row, which is lent, was 0.

@@ -7,10 +7,12 @@ use Rattle.cases.proofs.run_script.Statement.{statement}
 use Rattle.cases.proofs.run_script.Tie as tie
 
 abbrev Inv-loop : tie.InvT-loop
-Inv-loop script l₀ before₀ run₀ at₀ l before run at = (length l ≡ length l₀) × (length before ≡ length before₀)
+Inv-loop script l₀ before₀ postings₀ posted-before₀ run₀ at₀ l before postings posted-before run at =
+    ((length l ≡ length l₀) × (length before ≡ length before₀))
+    × ((length postings ≡ length postings₀) × (length posted-before ≡ length posted-before₀))
 
 abbrev μ-loop : tie.MeasureT-loop
-μ-loop script l₀ before₀ run₀ at₀ l before run at = length script - at
+μ-loop script l₀ before₀ postings₀ posted-before₀ run₀ at₀ l before postings posted-before run at = length script - at
 
 new-requires : tie.Need-new-requires Inv-loop μ-loop
 new-requires c κs = search needs
@@ -51,6 +53,12 @@ same-length c = search needs
 same-length-2 : tie.Need-same-length-2 Inv-loop μ-loop
 same-length-2 c = search needs
 
+same-length-3 : tie.Need-same-length-3 Inv-loop μ-loop
+same-length-3 c = search needs
+
+same-length-4 : tie.Need-same-length-4 Inv-loop μ-loop
+same-length-4 c = search needs
+
 returns : tie.Need-returns Inv-loop μ-loop
 returns c = search needs
 
@@ -73,4 +81,6 @@ run-script-spec =
     loop-again
     same-length
     same-length-2
+    same-length-3
+    same-length-4
     returns)

@@ -7,10 +7,11 @@ use Rattle.day_at_the_desk.proofs.carry_out.Statement.{statement}
 use Rattle.day_at_the_desk.proofs.carry_out.Tie as tie
 
 abbrev Inv-loop : tie.InvT-loop
-Inv-loop l₀ words actions i₀ l i = (i ≤ 14) × (length l ≡ length l₀)
+Inv-loop l₀ postings₀ words actions i₀ l postings i =
+    (i ≤ 14) × ((length l ≡ length l₀) × (length postings ≡ length postings₀))
 
 abbrev μ-loop : tie.MeasureT-loop
-μ-loop l₀ words actions i₀ l i = 14 - i
+μ-loop l₀ postings₀ words actions i₀ l postings i = 14 - i
 
 loop-holds : tie.Need-loop-holds Inv-loop μ-loop
 loop-holds c = search needs
@@ -42,6 +43,9 @@ loop-again c = search needs
 same-length : tie.Need-same-length Inv-loop μ-loop
 same-length c = search needs
 
+same-length-2 : tie.Need-same-length-2 Inv-loop μ-loop
+same-length-2 c = search needs
+
 returns : tie.Need-returns Inv-loop μ-loop
 returns c = search needs
 
@@ -61,4 +65,5 @@ carry-out-spec =
     loop-less
     loop-again
     same-length
+    same-length-2
     returns)

@@ -6,8 +6,8 @@ use borrow.Author.Needs.{needs}
 use Rattle.ledger.proofs.act.Statement.{statement}
 use Rattle.ledger.proofs.act.Tie as tie
 
-sound-requires : tie.Need-sound-requires
-sound-requires c κs = search needs
+sound-both-requires : tie.Need-sound-both-requires
+sound-both-requires c κs = search needs
 
 step-requires : tie.Need-step-requires
 step-requires c κs = search needs
@@ -15,14 +15,21 @@ step-requires c κs = search needs
 same-length : tie.Need-same-length
 same-length c = search needs
 
+same-length-2 : tie.Need-same-length-2
+same-length-2 c = search needs
+
 returns : tie.Need-returns
 unfolding outcome
 returns c =
-    let s = c .before .before .before .before .before .before .before .before in
-    let e = c .before .before .before .before .sound .ensures in (
-      c .before .before .step .ensures .0 ∙ ap (λ (b : Bool). step b (s .args .l .now) (s .args .words .now) (s .args .a) .answer) e,
-      c .before .before .step .ensures .1 ∙ ap (λ (b : Bool). step b (s .args .l .now) (s .args .words .now) (s .args .a) .ledger) e,
+    let s = c .before .before .before .before .before .before .before .before .before .before .before .before .before in
+    let e = c .before .before .before .before .before .before .before .sound-both .ensures in
+    let o = c .before .before .before .before .step .ensures in (
+      o .0 ∙ ap (λ (b : Bool). step b (s .args .l .now) (s .args .postings .now) (s .args .words .now) (s .args .a) .answer) e,
+      (
+        o .1 .0 ∙ ap (λ (b : Bool). step b (s .args .l .now) (s .args .postings .now) (s .args .words .now) (s .args .a) .ledger) e,
+        o .1 .1 ∙ ap (λ (b : Bool). step b (s .args .l .now) (s .args .postings .now) (s .args .words .now) (s .args .a) .postings) e,
+      ),
     )
 
 pub act-spec : {M : Type 1} → statement M
-act-spec = tie.close (tie.spec sound-requires step-requires same-length returns)
+act-spec = tie.close (tie.spec sound-both-requires step-requires same-length same-length-2 returns)

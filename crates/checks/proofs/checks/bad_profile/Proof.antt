@@ -1,38 +1,32 @@
 -- `checks::checks::bad_profile` meets its contract.
-use mathlib.Core.Path.{refl, ap, _∙_}
-use mathlib.Core.Bool.{not, _||_}
-use mathlib.Core.List.{List}
-use Prim.Native.Nat.{ℕ}
-use borrow.Author.Tests.{lt-ltb, le-ltb, eq-eqb, ne-eqb}
+use mathlib.Core.Path.{sym, ap, _∙_}
+use native.Mathlib.Omega.{arith}
 use borrow.Author.Needs.{needs}
-use Rattle.words.specs.Lists.{within, zeros}
-use Rattle.words.proofs.Laws.{lent}
-use Rattle.rules.specs.Numbers.{mostMegawatts}
-use Rattle.rules.specs.Checks.{badProfile, profile}
+use Rattle.words.specs.Lists.{zeros}
+use Rattle.rules.specs.Checks.{badProfile}
 use Rattle.rules.proofs.Picks.{or-stops, or-goes}
+use Rattle.rules.proofs.Passed.{words-passed}
+use Rattle.checks.proofs.Profiles.{profile-lent}
 use Rattle.checks.proofs.checks.bad_profile.Statement.{statement}
 use Rattle.checks.proofs.checks.bad_profile.Tie as tie
 
 pub bad-profile-spec : {M : Type 1} → statement M
-unfolding badProfile profile
+unfolding badProfile
 bad-profile-spec =
     tie.close
     (tie.spec
-    (λ c. search needs)
-    (λ c. search needs)
-    (λ c. search needs)
-    (λ c. or-stops _ _ (lt-ltb _ _ (c .if1 .taken)))
-    (λ c. or-goes _ _ _ (le-ltb _ _ (c .before .if1 .left)) (or-stops _ _ (ap not (ne-eqb _ _ (c .if2 .taken)))))
+    (λ c κs. search needs)
+    (λ c. or-stops _ _ (sym (c .before .bad-words .ensures) ∙ c .if1 .taken))
     (λ c. search needs)
     (λ c. search needs)
     (λ c. search needs)
     (λ c. search needs)
     (λ c. search needs)
+    (λ c. search needs)
+    (λ c. let b = c .before .before .before in omega (arith, words-passed _ _ _ (sym (b .bad-words .ensures) ∙ c .before .before .if1 .left) .fits))
     (λ c κs. search needs)
     (λ c.
-    let f = c .before .before .before in
-    let s = f .before .before .before .before in
-    or-goes _ _ _ (le-ltb _ _ (f .if1 .left))
-    (or-goes _ _ _ (ap not (eq-eqb _ _ (c .before .before .if2 .left)))
-    (c .bad-words .ensures
-    ∙ ap (λ (x : List ℕ). not (within mostMegawatts x) || zeros x) (lent (s .args .words .now) (s .args .a .offset) (s .args .a .offset) (s .args .a .length) refl (f .if1 .left))))))
+    let b = c .before .before .before .before .before in
+    let s = b .before .before in
+    let e = sym (b .bad-words .ensures) ∙ c .before .before .before .before .if1 .left in
+    or-goes _ _ _ e (c .all-zero .ensures ∙ ap zeros (profile-lent (s .args .words .now) (s .args .a) (words-passed _ _ _ e .fits)))))

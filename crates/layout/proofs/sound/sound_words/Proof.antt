@@ -27,11 +27,14 @@ sound-words-spec =
     (λ c. search needs)
     (λ c. search needs)
     (λ c. search needs)
+    (λ c κs. search needs)
+    (λ c. search needs)
     (λ c. search needs)
     (λ c. search needs)
     (λ c κs. search needs)
     (λ c.
-    let e = c .before .before .before .before .before .before .before .before .before in
+    let p = c .before .before in
+    let e = p .before .before .before .before .before .before .before .before .before in
     let d = e .before .before in
     let b = d .before .before in
-    simp (b .before .before .from-one .ensures, b .from-one2 .ensures, d .is-entity .ensures, e .is-entity2 .ensures, c .all-zero .ensures)))
+    simp (b .before .before .from-one .ensures, b .from-one2 .ensures, d .is-entity .ensures, e .is-entity2 .ensures, p .from-one3 .ensures, c .all-zero .ensures)))

@@ -5,7 +5,7 @@ use mathlib.Core.List.{List}
 use Prim.Native.Nat.{ℕ}
 use mathlib.Core.Path.{refl, ap, _∙_}
 use Rattle.rules.specs.Act.{answered}
-use Rattle.ledger.proofs.Laws.{passes-kind, passes-last, passes-next, passes-more, submission-answer}
+use Rattle.ledger.proofs.Laws.{passes-next, passes-more, submission-answer}
 use Rattle.layout.proofs.SoundAt.{head-fits, sized-at}
 use borrow.Author.Needs.{needs}
 use Rattle.ledger.proofs.answering.accept_submission.Statement.{statement}
@@ -18,7 +18,7 @@ cast-n : tie.Need-cast-n
 cast-n c = search needs
 
 apply-requires : tie.Need-apply-requires
-apply-requires c κs = let s = c .before .before .before .before in (s .pre .0 .sound, (passes-kind (s .pre .0), passes-last (s .pre .0)))
+apply-requires c κs = let s = c .before .before .before .before in (s .pre .0 .sound, (s .pre .0 .kind, s .pre .0 .last))
 
 word-at-requires : tie.Need-word-at-requires
 word-at-requires c κs =

@@ -66,15 +66,19 @@ returns-6 : tie.Need-returns-6
 unfolding kindAfter
 returns-6 c = search results depth 16
 
+returns-7 : tie.Need-returns-7
+unfolding kindAfter
+returns-7 c = search results depth 16
+
 clock-requires : tie.Need-clock-requires
 clock-requires c κs = search kinds
 
 same-length-7 : tie.Need-same-length-7
 same-length-7 c = search needs
 
-returns-7 : tie.Need-returns-7
+returns-8 : tie.Need-returns-8
 unfolding kindAfter
-returns-7 c = search results depth 16
+returns-8 c = search results depth 16
 
 pub apply-spec : {M : Type 1} → statement M
 apply-spec =
@@ -98,6 +102,7 @@ apply-spec =
     lapse-requires
     same-length-6
     returns-6
+    returns-7
     clock-requires
     same-length-7
-    returns-7)
+    returns-8)

@@ -55,6 +55,13 @@ returns-7 : tie.Need-returns-7
 unfolding kindNumber
 returns-7 c = search results depth 16
 
+post-number-requires : tie.Need-post-number-requires
+post-number-requires c κs = search kinds
+
+returns-8 : tie.Need-returns-8
+unfolding kindNumber
+returns-8 c = search results depth 16
+
 pub kind-number-spec : {M : Type 1} → statement M
 kind-number-spec =
     tie.close
@@ -72,4 +79,6 @@ kind-number-spec =
     lapse-number-requires
     returns-6
     clock-number-requires
-    returns-7)
+    returns-7
+    post-number-requires
+    returns-8)
