@@ -12,7 +12,7 @@ use Rattle.column.specs.Column.{Col}
 use Rattle.column.specs.Use.{holdsOn, countsOn, countsBy, counted, useOf, Within, Tested}
 use Rattle.column.specs.Step.{Keeps, Still, Same, Submit, Top, Child, Give, AnnulChild, Reduce, Step, Fresh, same, submit, quiet, top, child, give, annul-top, annul-child, displace, reduce}
 use Rattle.column.proofs.Sums.{eqb-same, eqb-other, gate-le, sum-ext, sum-le, sum-zero, sum-suc, sum-le-two}
-use Rattle.column.proofs.Flow.{Shape}
+use Rattle.column.proofs.Flow.{Shape, by-one}
 
 -- ---- tests
 and-true : (b c : Bool) → (b && c) ≡ true → (b ≡ true) × (c ≡ true)
@@ -31,8 +31,8 @@ gate-mono false true f l = absurd (never (f refl))
     never z = let y : _≡_ {A = ℕ} 0 1 = cc in omega arith
 gate-mono false false f l = omega arith
 
--- ---- one row
--- a row that is not CONFIRMED counts nowhere; one of another path counts only as a type 5
+-- ---- by-one row
+-- a row that is not CONFIRMED counts nowhere; by-one of another path counts only as a type 5
 counted-off : (S : Col) (x n : ℕ) → S .st n ≢ 13 → counted S x n ≡ 0
 counted-off S x n e = ap (λ b. gate (b && (eqb (S .path n) x || eqb (S .ty n) 5 && holdsOn S x (S .ref n - 1))) (S .a n)) (eqb-other e)
 
@@ -93,7 +93,7 @@ counted-le S S' x n p t r s a E = gate-mono (countsOn S x n) (countsOn S' x n) c
         (or-mono (eqb (S .path n) x) _ (eqb (S' .path n) x) _ (λ q. eq-eqb _ _ (sym p ∙ eqb-true _ _ q)) above (h .1))
 
 module _ {S S' : Col} (K : Keeps S S') (x : ℕ) (E : (m : ℕ) → Eased S S' x m) where
-  -- a row in which nothing rises, and one that stays
+  -- a row in which nothing rises, and by-one that stays
   no-more : (n : ℕ) → (S' .st n ≡ 13 → S .st n ≡ 13) → S' .a n ≤ S .a n → counted S' x n ≤ counted S x n
   no-more n s a = counted-le S S' x n (K .path n) (K .ty n) (K .ref n) s a (E (S .ref n - 1))
 
@@ -118,25 +118,17 @@ module _ {S S' : Col} (K : Keeps S S') (x : ℕ) (E : (m : ℕ) → Eased S S' x
         sum-le-two (S .used) c q (λ n. counted S x n) (λ n. counted S' x n) lc lq ne f t,
       )
 
--- by one row and the rest
-one : (P : ℕ → Type 0) (c : ℕ) → P c → ((n : ℕ) → n ≢ c → P n) → (n : ℕ) → P n
-one P c a f n = go (ℕ-discrete n c)
-  where
-    go : Dec (n ≡ c) → P n
-    go (yes e) = subst P (sym e) a
-    go (no e) = f n e
-
 -- ---- each step, and a path that is not tested
 module _ {S S' : Col} (x : ℕ) where
   -- only the row c stops or starts to be CONFIRMED
   others : (c : ℕ) → Keeps S S' → ((n : ℕ) → n ≢ c → S' .st n ≡ S .st n) → Eased S S' x c → (m : ℕ) → Eased S S' x m
-  others c K s e = one (Eased S S' x) c e (λ m ne. eased S S' x m (K .path m) (λ q. sym (s m ne) ∙ q))
+  others c K s e = by-one (Eased S S' x) c e (λ m ne. eased S S' x m (K .path m) (λ q. sym (s m ne) ∙ q))
 
   -- the row c is not CONFIRMED after the step
   ends : (c : ℕ) → Keeps S S' → S' .st c ≢ 13 → ((n : ℕ) → n ≢ c → Still S S' n) → useOf S' x ≤ useOf S x
   ends c K off rest =
       let E = others c K (λ n ne. rest n ne .st) (eased S S' x c (K .path c) (λ q. absurd (off q))) in
-      all-le K x E (one (λ n. counted S' x n ≤ counted S x n) c (omega (arith, counted-off S' x c off)) (λ n ne. stays K x E n (rest n ne)))
+      all-le K x E (by-one (λ n. counted S' x n ≤ counted S x n) c (omega (arith, counted-off S' x c off)) (λ n ne. stays K x E n (rest n ne)))
 
   same-eases : Same S S' → useOf S' x ≤ useOf S x
   same-eases D =
@@ -147,34 +139,34 @@ module _ {S S' : Col} (x : ℕ) where
   reduce-eases {c} {y} D =
       let E = others c (D .keeps) (λ n ne. D .rest n ne .st) (eased S S' x c (D .keeps .path c) (λ q. D .before)) in
       all-le (D .keeps) x E
-      (one (λ n. counted S' x n ≤ counted S x n) c (no-more (D .keeps) x E c (λ q. D .before) (omega (arith, D .a))) (λ n ne. stays (D .keeps) x E n (D .rest n ne)))
+      (by-one (λ n. counted S' x n ≤ counted S x n) c (no-more (D .keeps) x E c (λ q. D .before) (omega (arith, D .a))) (λ n ne. stays (D .keeps) x E n (D .rest n ne)))
 
   top-eases : {c : ℕ} → Top S S' c → S .path c ≢ x → useOf S' x ≤ useOf S x
   top-eases {c} C ne =
       let K = C .keeps in
       let E = others c K (λ n k. C .rest n k .st) (eased-apart S S' x c (K .path c) ne) in
       all-le K x E
-      (one (λ n. counted S' x n ≤ counted S x n) c
+      (by-one (λ n. counted S' x n ≤ counted S x n) c
       (omega (arith, counted-apart S' x c (λ q. ne (sym (K .path c) ∙ q)) (λ q. omega (arith, q, K .ty c, C .type)))) (λ n k. stays K x E n (C .rest n k)))
 
   child-eases : {c p : ℕ} → Child S S' c p → S .path c ≢ x → S .path p ≢ x → useOf S' x ≤ useOf S x
   child-eases {c} {p} C nc np =
       let K = C .keeps in
-      let E = others c K (λ n ne. one (λ m. m ≢ c → S' .st m ≡ S .st m) p (λ _. C .p-after ∙ sym (C .p-before)) (λ m mp mc. C .rest m mc mp .st) n ne) (eased-apart S S' x c (K .path c) nc) in
+      let E = others c K (λ n ne. by-one (λ m. m ≢ c → S' .st m ≡ S .st m) p (λ _. C .p-after ∙ sym (C .p-before)) (λ m mp mc. C .rest m mc mp .st) n ne) (eased-apart S S' x c (K .path c) nc) in
       all-le K x E
-      (one (λ n. counted S' x n ≤ counted S x n) c
+      (by-one (λ n. counted S' x n ≤ counted S x n) c
       (omega (arith, counted-return S' x c p (λ q. nc (sym (K .path c) ∙ q)) (K .ref c ∙ C .parent) (λ q. np (sym (K .path p) ∙ q))))
-      (λ n nn. one (λ m. m ≢ c → counted S' x m ≤ counted S x m) p
+      (λ n nn. by-one (λ m. m ≢ c → counted S' x m ≤ counted S x m) p
       (λ _. no-more K x E p (λ q. C .p-before) (omega (arith, C .p-a))) (λ m mp mc. stays K x E m (C .rest m mc mp)) n nn))
 
   annul-child-eases : {c p : ℕ} → AnnulChild S S' c p → Shape S → S .path p ≢ x → useOf S' x ≤ useOf S x
   annul-child-eases {c} {p} A H np =
       let K = A .keeps in
-      let E = others c K (λ n ne. one (λ m. m ≢ c → S' .st m ≡ S .st m) p (λ _. A .p-st) (λ m mp mc. A .rest m mc mp .st) n ne) (eased S S' x c (K .path c) (λ q. absurd (A .after .0 q))) in
+      let E = others c K (λ n ne. by-one (λ m. m ≢ c → S' .st m ≡ S .st m) p (λ _. A .p-st) (λ m mp mc. A .rest m mc mp .st) n ne) (eased S S' x c (K .path c) (λ q. absurd (A .after .0 q))) in
       all-le K x E
-      (one (λ n. counted S' x n ≤ counted S x n) c
+      (by-one (λ n. counted S' x n ≤ counted S x n) c
       (omega (arith, counted-off S' x c (A .after .0)))
-      (λ n nn. one (λ m. m ≢ c → counted S' x m ≤ counted S x m) p
+      (λ n nn. by-one (λ m. m ≢ c → counted S' x m ≤ counted S x m) p
       (λ _. omega (arith, counted-apart S' x p (λ q. np (sym (K .path p) ∙ q)) (λ q. H .under c p (A .parent) (A .type) .0 (sym (K .ty p) ∙ q))))
       (λ m mp mc. stays K x E m (A .rest m mc mp)) n nn))
 
@@ -199,8 +191,8 @@ module _ {S S' : Col} (x : ℕ) where
 
       sts : (n : ℕ) → n ≢ c → S' .st n ≡ S .st n
       sts n ne =
-          one (λ m. m ≢ c → S' .st m ≡ S .st m) q (λ _. G .q-after ∙ sym (G .q-before))
-          (λ m mq. one (λ k. k ≢ q → k ≢ c → S' .st k ≡ S .st k) p (λ _ _. G .p-st) (λ k kp kq kc. G .rest k kc kq kp .st) m mq) n ne
+          by-one (λ m. m ≢ c → S' .st m ≡ S .st m) q (λ _. G .q-after ∙ sym (G .q-before))
+          (λ m mq. by-one (λ k. k ≢ q → k ≢ c → S' .st k ≡ S .st k) p (λ _ _. G .p-st) (λ k kp kq kc. G .rest k kc kq kp .st) m mq) n ne
 
       E : (m : ℕ) → Eased S S' x m
       E = others c K sts (eased-apart S S' x c (K .path c) nc)
@@ -212,9 +204,9 @@ module _ {S S' : Col} (x : ℕ) where
       none : counted S' x p ≡ 0 → useOf S' x ≤ useOf S x
       none z =
           all-le K x E
-          (one (λ n. counted S' x n ≤ counted S x n) c own
-          (λ n nn. one (λ m. m ≢ c → counted S' x m ≤ counted S x m) q (λ _. no-more K x E q (λ _. G .q-before) (omega (arith, G .q-a)))
-          (λ m mq. one (λ k. k ≢ q → k ≢ c → counted S' x k ≤ counted S x k) p (λ _ _. omega (arith, z)) (λ k kp kq kc. stays K x E k (G .rest k kc kq kp)) m mq) n nn))
+          (by-one (λ n. counted S' x n ≤ counted S x n) c own
+          (λ n nn. by-one (λ m. m ≢ c → counted S' x m ≤ counted S x m) q (λ _. no-more K x E q (λ _. G .q-before) (omega (arith, G .q-a)))
+          (λ m mq. by-one (λ k. k ≢ q → k ≢ c → counted S' x k ≤ counted S x k) p (λ _ _. omega (arith, z)) (λ k kp kq kc. stays K x E k (G .rest k kc kq kp)) m mq) n nn))
 
       -- where it counts, and so does the redirect
       holds : (T : Col) → T .st p ≡ 13 → T .path p ≡ x → holdsOn T x p ≡ true
@@ -245,7 +237,7 @@ module _ {S S' : Col} (x : ℕ) where
           let e' : S' .path p ≡ x = K .path p ∙ e in
           let d' : S' .st p ≡ 13 = G .p-st ∙ d in
           all-two K x E q p (omega (arith, low-q, G .in-use)) (omega (arith, low-q, low-p, G .in-use)) (λ z. omega (arith, z, low-p))
-          (λ n mq mp. one (λ k. k ≢ q → k ≢ p → counted S' x k ≤ counted S x k) c (λ _ _. own) (λ k kc kq kp. stays K x E k (G .rest k kc kq kp)) n mq mp)
+          (λ n mq mp. by-one (λ k. k ≢ q → k ≢ p → counted S' x k ≤ counted S x k) c (λ _ _. own) (λ k kc kq kp. stays K x E k (G .rest k kc kq kp)) n mq mp)
           (omega (
             arith,
             returns S (G .q-before) bends (G .grand) d e,
@@ -317,51 +309,51 @@ fresh-within {B} {S} F =
 
 -- a posting for path x
 pub post-within : {B B' : ℕ → ℕ} {S : Col} (x : ℕ) → ((y : ℕ) → 1 ≤ y → y ≢ x → B' y ≡ B y) → useOf S x ≤ B' x → Within B S → Within B' S
-post-within {B} {B'} {S} x e u W = record { use-of = one (λ y. 1 ≤ y → useOf S y ≤ B' y) x (λ g. u) (λ y ne g. omega (arith, W .use-of y g, e y g ne)) }
+post-within {B} {B'} {S} x e u W = record { use-of = by-one (λ y. 1 ≤ y → useOf S y ≤ B' y) x (λ g. u) (λ y ne g. omega (arith, W .use-of y g, e y g ne)) }
 
 -- ---- use after a step, from the column before it
 -- the statuses of the rows that a step is not about stay
 pub child-statuses : {S S' : Col} {c p : ℕ} → Child S S' c p → (n : ℕ) → n ≢ c → S' .st n ≡ S .st n
-child-statuses {S} {S'} {c} {p} C = one (λ m. m ≢ c → S' .st m ≡ S .st m) p (λ _. C .p-after ∙ sym (C .p-before)) (λ m mp mc. C .rest m mc mp .st)
+child-statuses {S} {S'} {c} {p} C = by-one (λ m. m ≢ c → S' .st m ≡ S .st m) p (λ _. C .p-after ∙ sym (C .p-before)) (λ m mp mc. C .rest m mc mp .st)
 
 pub annul-child-statuses : {S S' : Col} {c p : ℕ} → AnnulChild S S' c p → (n : ℕ) → n ≢ c → S' .st n ≡ S .st n
-annul-child-statuses {S} {S'} {c} {p} A = one (λ m. m ≢ c → S' .st m ≡ S .st m) p (λ _. A .p-st) (λ m mp mc. A .rest m mc mp .st)
+annul-child-statuses {S} {S'} {c} {p} A = by-one (λ m. m ≢ c → S' .st m ≡ S .st m) p (λ _. A .p-st) (λ m mp mc. A .rest m mc mp .st)
 
 pub give-statuses : {S S' : Col} {c q p : ℕ} → Give S S' c q p → (n : ℕ) → n ≢ c → S' .st n ≡ S .st n
 give-statuses {S} {S'} {c} {q} {p} G =
-    one (λ m. m ≢ c → S' .st m ≡ S .st m) q (λ _. G .q-after ∙ sym (G .q-before))
-    (λ m mq. one (λ k. k ≢ q → k ≢ c → S' .st k ≡ S .st k) p (λ _ _. G .p-st) (λ k kp kq kc. G .rest k kc kq kp .st) m mq)
+    by-one (λ m. m ≢ c → S' .st m ≡ S .st m) q (λ _. G .q-after ∙ sym (G .q-before))
+    (λ m mq. by-one (λ k. k ≢ q → k ≢ c → S' .st k ≡ S .st k) p (λ _ _. G .p-st) (λ k kp kq kc. G .rest k kc kq kp .st) m mq)
 
 -- so the rows that are CONFIRMED after it are c too, or all but c
 module _ (S S' : Col) (c : ℕ) (rest : (n : ℕ) → n ≢ c → S' .st n ≡ S .st n) where
   pub confirmed-now : S' .st c ≡ 13 → (n : ℕ) → eqb (S' .st n) 13 ≡ (eqb n c || eqb (S .st n) 13)
   confirmed-now e =
-      one (λ n. eqb (S' .st n) 13 ≡ (eqb n c || eqb (S .st n) 13)) c (eq-eqb _ _ e ∙ sym (ap (λ b. b || eqb (S .st c) 13) (eqb-same c)))
+      by-one (λ n. eqb (S' .st n) 13 ≡ (eqb n c || eqb (S .st n) 13)) c (eq-eqb _ _ e ∙ sym (ap (λ b. b || eqb (S .st c) 13) (eqb-same c)))
       (λ n ne. ap (λ s. eqb s 13) (rest n ne) ∙ sym (ap (λ b. b || eqb (S .st n) 13) (eqb-other ne)))
 
   pub annulled-now : S' .st c ≢ 13 → (n : ℕ) → eqb (S' .st n) 13 ≡ (not (eqb n c) && eqb (S .st n) 13)
   annulled-now e =
-      one (λ n. eqb (S' .st n) 13 ≡ (not (eqb n c) && eqb (S .st n) 13)) c (eqb-other e ∙ sym (ap (λ b. not b && eqb (S .st c) 13) (eqb-same c)))
+      by-one (λ n. eqb (S' .st n) 13 ≡ (not (eqb n c) && eqb (S .st n) 13)) c (eqb-other e ∙ sym (ap (λ b. not b && eqb (S .st c) 13) (eqb-same c)))
       (λ n ne. ap (λ s. eqb s 13) (rest n ne) ∙ sym (ap (λ b. not b && eqb (S .st n) 13) (eqb-other ne)))
 
--- the rows that sure names are CONFIRMED after the step, and then have what held says
-module _ {S S' : Col} (K : Keeps S S') (sure : ℕ → Bool) (now : (n : ℕ) → eqb (S' .st n) 13 ≡ sure n) where
-  counts-are : (x n : ℕ) → countsOn S' x n ≡ countsBy S sure x n
+-- the rows that confirmed names are CONFIRMED after the step, and then have what held says
+module _ {S S' : Col} (K : Keeps S S') (confirmed : ℕ → Bool) (now : (n : ℕ) → eqb (S' .st n) 13 ≡ confirmed n) where
+  counts-are : (x n : ℕ) → countsOn S' x n ≡ countsBy S confirmed x n
   counts-are x n =
       ap (λ b. b && (eqb (S' .path n) x || eqb (S' .ty n) 5 && holdsOn S' x (S' .ref n - 1))) (now n)
-      ∙ ap (λ p. sure n && (eqb p x || eqb (S' .ty n) 5 && holdsOn S' x (S' .ref n - 1))) (K .path n)
-      ∙ ap (λ t. sure n && (eqb (S .path n) x || eqb t 5 && holdsOn S' x (S' .ref n - 1))) (K .ty n)
-      ∙ ap (λ r. sure n && (eqb (S .path n) x || eqb (S .ty n) 5 && holdsOn S' x (r - 1))) (K .ref n)
-      ∙ ap (λ b. sure n && (eqb (S .path n) x || eqb (S .ty n) 5 && (b && eqb (S' .path (S .ref n - 1)) x))) (now (S .ref n - 1))
-      ∙ ap (λ p. sure n && (eqb (S .path n) x || eqb (S .ty n) 5 && (sure (S .ref n - 1) && eqb p x))) (K .path (S .ref n - 1))
+      ∙ ap (λ p. confirmed n && (eqb p x || eqb (S' .ty n) 5 && holdsOn S' x (S' .ref n - 1))) (K .path n)
+      ∙ ap (λ t. confirmed n && (eqb (S .path n) x || eqb t 5 && holdsOn S' x (S' .ref n - 1))) (K .ty n)
+      ∙ ap (λ r. confirmed n && (eqb (S .path n) x || eqb (S .ty n) 5 && holdsOn S' x (r - 1))) (K .ref n)
+      ∙ ap (λ b. confirmed n && (eqb (S .path n) x || eqb (S .ty n) 5 && (b && eqb (S' .path (S .ref n - 1)) x))) (now (S .ref n - 1))
+      ∙ ap (λ p. confirmed n && (eqb (S .path n) x || eqb (S .ty n) 5 && (confirmed (S .ref n - 1) && eqb p x))) (K .path (S .ref n - 1))
 
   -- a test behind another, of numbers that are equal where the first holds
   gate-same : (b c : Bool) (u v : ℕ) → (b ≡ true → u ≡ v) → gate (b && c) u ≡ gate (b && c) v
   gate-same true c u v f = ap (gate c) (f refl)
   gate-same false c u v f = refl
 
-  pub use-after : (held : ℕ → ℕ) → ((n : ℕ) → sure n ≡ true → S' .a n ≡ held n) → (x : ℕ) → useOf S' x ≡ sumTo (S .used) (λ n. gate (countsBy S sure x n) (held n))
+  pub use-after : (held : ℕ → ℕ) → ((n : ℕ) → confirmed n ≡ true → S' .a n ≡ held n) → (x : ℕ) → useOf S' x ≡ sumTo (S .used) (λ n. gate (countsBy S confirmed x n) (held n))
   unfolding useOf
   use-after held is x =
       ap (λ m. sumTo m (λ n. counted S' x n)) (K .used)
-      ∙ sum-ext (S .used) _ _ (λ n l. ap (λ b. gate b (S' .a n)) (counts-are x n) ∙ gate-same (sure n) _ (S' .a n) (held n) (is n))
+      ∙ sum-ext (S .used) _ _ (λ n l. ap (λ b. gate b (S' .a n)) (counts-are x n) ∙ gate-same (confirmed n) _ (S' .a n) (held n) (is n))

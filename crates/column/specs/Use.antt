@@ -14,9 +14,9 @@ holdsOn S x n = eqb (S .st n) 13 && eqb (S .path n) x
 abbrev pub countsOn : Col → ℕ → ℕ → Bool
 countsOn S x n = eqb (S .st n) 13 && (eqb (S .path n) x || eqb (S .ty n) 5 && holdsOn S x (S .ref n - 1))
 
--- the same, where other rows are CONFIRMED: those that sure names
+-- the same, where the rows that confirmed names are CONFIRMED
 abbrev pub countsBy : Col → (ℕ → Bool) → ℕ → ℕ → Bool
-countsBy S sure x n = sure n && (eqb (S .path n) x || eqb (S .ty n) 5 && (sure (S .ref n - 1) && eqb (S .path (S .ref n - 1)) x))
+countsBy S confirmed x n = confirmed n && (eqb (S .path n) x || eqb (S .ty n) 5 && (confirmed (S .ref n - 1) && eqb (S .path (S .ref n - 1)) x))
 
 abbrev pub counted : Col → ℕ → ℕ → ℕ
 counted S x n = gate (countsOn S x n) (S .a n)

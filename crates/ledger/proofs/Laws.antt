@@ -25,6 +25,7 @@ use Rattle.rules.specs.Reduce.{reduceNumber, reduceAfter}
 use Rattle.rules.specs.Lapse.{lapseNumber, lapseAfter}
 use Rattle.rules.specs.Clock.{clockNumber, clockAfter}
 use Rattle.rules.specs.Post.{postNumber, posted}
+use Rattle.rules.specs.Moves.{confirmedOrAnnulled}
 use Rattle.rules.specs.Act.{byKind, kindNumber, kindAfter, postingsAfter, commonNumber, soundBoth, number, refusal, subject, statusBefore, movedBetween, movedBy, megawattHours, acceptance, answered, Outcome, refused, accepted, step}
 use Rattle.rules.specs.declared.Action.{Action}
 use Rattle.rules.specs.declared.Answer.{Answer}
@@ -211,36 +212,35 @@ lent-total {w} {a} p e = e ∙ ap total (profile-lent w a (p .fits))
 -- ---- MW-hours moved, by the tests
 module _ (H old new held : ℕ) (next : List ℕ) where
   pub confirmed-now : {v : ℕ} → old ≢ CONFIRMED → new ≡ CONFIRMED → v ≡ total (granted H next) → v ≡ movedBetween H old new held next
-  unfolding movedBetween
+  unfolding movedBetween confirmedOrAnnulled
   confirmed-now a b h = simp (ne-eqb old CONFIRMED a, eq-eqb new CONFIRMED b) h
 
   pub not-confirmed : old ≢ CONFIRMED → new ≢ CONFIRMED → 0 ≡ movedBetween H old new held next
-  unfolding movedBetween
+  unfolding movedBetween confirmedOrAnnulled
   not-confirmed a b = simp (ne-eqb old CONFIRMED a, ne-eqb new CONFIRMED b)
 
   pub annulled-now : {v : ℕ} → old ≡ CONFIRMED → new ≡ ANNULLED → v ≡ total (granted H next) → v ≡ movedBetween H old new held next
-  unfolding movedBetween
+  unfolding movedBetween confirmedOrAnnulled
   annulled-now a b h = simp (eq-eqb old CONFIRMED a, eq-eqb new ANNULLED b) h
 
   pub displaced-now : old ≡ CONFIRMED → new ≢ ANNULLED → new ≡ DISPLACED → held ≡ movedBetween H old new held next
-  unfolding movedBetween
+  unfolding movedBetween confirmedOrAnnulled
   displaced-now a b d = simp (eq-eqb old CONFIRMED a, ne-eqb new ANNULLED b, eq-eqb new DISPLACED d)
 
   pub stayed : old ≡ CONFIRMED → new ≢ ANNULLED → new ≢ DISPLACED → 0 ≡ movedBetween H old new held next
-  unfolding movedBetween
+  unfolding movedBetween confirmedOrAnnulled
   stayed a b d = simp (eq-eqb old CONFIRMED a, ne-eqb new ANNULLED b, ne-eqb new DISPLACED d)
 
   -- what was available is counted of a row that was CONFIRMED alone
   pub held-counts : movedBetween H old new (pick (eqb old CONFIRMED) held 0) next ≡ movedBetween H old new held next
-  unfolding movedBetween
+  unfolding movedBetween confirmedOrAnnulled
   held-counts = go (eqb old CONFIRMED)
     where
       by : Bool → ℕ → ℕ
       by was held =
-          pick (not was && eqb new CONFIRMED) (total (granted H next)) (
-          pick (was && eqb new ANNULLED) (total (granted H next)) (
+          pick (not was && eqb new CONFIRMED || was && eqb new ANNULLED) (total (granted H next)) (
           pick (was && eqb new DISPLACED) held
-          0))
+          0)
 
       go : (was : Bool) → by was (pick was held 0) ≡ by was held
       go true = refl

@@ -35,12 +35,12 @@ use Rattle.paths.specs.Changes.{confirmedAfter, heldIn, addedBy, useBy, 
 use Rattle.paths.specs.Exceeding.{Confirms, Annuls, Unchanged}
 
 -- ---- by the same rows CONFIRMED; by the same use
-counts-cong : (H : ℕ) (l : List ℕ) (sure sure′ : ℕ → Bool) → ((m : ℕ) → sure m ≡ sure′ m) → (x m : ℕ) → countsBy H l sure x m ≡ countsBy H l sure′ x m
+counts-cong : (H : ℕ) (l : List ℕ) (confirmed confirmed′ : ℕ → Bool) → ((m : ℕ) → confirmed m ≡ confirmed′ m) → (x m : ℕ) → countsBy H l confirmed x m ≡ countsBy H l confirmed′ x m
 unfolding countsBy
-counts-cong H l sure sure′ same x m =
+counts-cong H l confirmed confirmed′ same x m =
     let up : ℕ = relatedRow H l m in
-    ap (λ (b : Bool). b && (eqb (path (row H l m)) x || eqb (reqtype (row H l m)) NONFIRM-REDIRECT && (sure up && eqb (path (row H l up)) x))) (same m)
-    ∙ ap (λ (b : Bool). sure′ m && (eqb (path (row H l m)) x || eqb (reqtype (row H l m)) NONFIRM-REDIRECT && (b && eqb (path (row H l up)) x))) (same up)
+    ap (λ (b : Bool). b && (eqb (path (row H l m)) x || eqb (reqtype (row H l m)) NONFIRM-REDIRECT && (confirmed up && eqb (path (row H l up)) x))) (same m)
+    ∙ ap (λ (b : Bool). confirmed′ m && (eqb (path (row H l m)) x || eqb (reqtype (row H l m)) NONFIRM-REDIRECT && (b && eqb (path (row H l up)) x))) (same up)
 
 module _ (H : ℕ) (ps : List ℕ) (uses uses′ : ℕ → ℕ → ℕ) (same : (x h : ℕ) → h < H → uses x h ≡ uses′ x h) where
   pub exceeds-cong : (x : ℕ) → exceeds H ps uses x ≡ exceeds H ps uses′ x
@@ -83,9 +83,9 @@ module _ {H : ℕ} {l : List ℕ} {R n : ℕ} {c : Change} (k : Confirms H l R n
   abbrev t : ℕ
   t = reqtype (row H l n)
 
-  sure-with : (m : ℕ) → confirmedAfter H l c m ≡ confirmedWith H l n m
+  after-confirming : (m : ℕ) → confirmedAfter H l c m ≡ confirmedWith H l n m
   unfolding confirmedAfter confirmedWith
-  sure-with m =
+  after-confirming m =
       ap (λ (j : ℕ). pick (eqb m j) (c .confirmed) (isConfirmed (row H l m))) (k .own)
       ∙ ap (λ (b : Bool). pick (eqb m n) b (isConfirmed (row H l m))) (k .confirmed)
       ∙ pick-or (eqb m n) (isConfirmed (row H l m))
@@ -107,7 +107,7 @@ module _ {H : ℕ} {l : List ℕ} {R n : ℕ} {c : Change} (k : Confirms H l R n
   unfolding useBy useConfirming addedBy
   use-confirming most x h =
       sum-cong (used l) _ _ (λ m lt.
-      ap (λ (b : Bool). pick b (heldIn H (row H l m) c (start (row H l n)) mw m h) 0) (counts-cong H l (confirmedAfter H l c) (confirmedWith H l n) sure-with x m)
+      ap (λ (b : Bool). pick b (heldIn H (row H l m) c (start (row H l n)) mw m h) 0) (counts-cong H l (confirmedAfter H l c) (confirmedWith H l n) after-confirming x m)
       ∙ ap (λ (v : ℕ). pick (countsBy H l (confirmedWith H l n) x m) v 0) (held-with h m (λ e. omega (arith, e, lt, most))))
 
 not-short : (o d : Bool) → o ≡ false → (not o && not d) ≡ false → d ≡ true
@@ -166,9 +166,9 @@ module _ {l : List ℕ} {R H n : ℕ} (s : SoundAt l R H) (lt : n < used l) {c :
     drawn = λ less h hlt. absurd (omega (arith, less, k .less, used-rows s lt));
   }
 
-  sure-but : (m : ℕ) → confirmedAfter H l c m ≡ confirmedBut H l n m
+  after-annulling : (m : ℕ) → confirmedAfter H l c m ≡ confirmedBut H l n m
   unfolding confirmedAfter confirmedBut
-  sure-but m =
+  after-annulling m =
       ap (λ (j : ℕ). pick (eqb m j) (c .confirmed) (isConfirmed (row H l m))) (k .own)
       ∙ ap (λ (b : Bool). pick (eqb m n) b (isConfirmed (row H l m))) (k .confirmed)
       ∙ pick-but (eqb m n) (isConfirmed (row H l m))
@@ -195,7 +195,7 @@ module _ {l : List ℕ} {R H n : ℕ} (s : SoundAt l R H) (lt : n < used l) {c :
 
   pub use-annulling : (x h : ℕ) → h < H → useBy H l c (start (row H l n)) (granted H (row H l n)) x h ≡ useAnnulling H l n x h
   unfolding useBy useAnnulling addedBy
-  use-annulling x h hlt = sum-cong (used l) _ _ (λ m mlt. ap (λ (b : Bool). pick b (heldIn H (row H l m) c (start (row H l n)) (granted H (row H l n)) m h) 0) (counts-cong H l (confirmedAfter H l c) (confirmedBut H l n) sure-but x m) ∙ go m mlt (ℕ-discrete m n))
+  use-annulling x h hlt = sum-cong (used l) _ _ (λ m mlt. ap (λ (b : Bool). pick b (heldIn H (row H l m) c (start (row H l n)) (granted H (row H l n)) m h) 0) (counts-cong H l (confirmedAfter H l c) (confirmedBut H l n) after-annulling x m) ∙ go m mlt (ℕ-discrete m n))
     where
       go : (m : ℕ) → m < used l → Dec (m ≡ n) → pick (countsBy H l (confirmedBut H l n) x m) (heldIn H (row H l m) c (start (row H l n)) (granted H (row H l n)) m h) 0 ≡ pick (countsBy H l (confirmedBut H l n) x m) (heldAnnulling H l n h m) 0
       go m mlt (yes e) =
@@ -212,9 +212,9 @@ module _ {l : List ℕ} {R H : ℕ} (s : SoundAt l R H) {c : Change} (k : Unchan
   unfolding isConfirmed
   unconfirmed = ne-eqb (getD (row H l R) 1 0) CONFIRMED (λ e. omega (arith, e, subst (λ (j : ℕ). getD (row j l R) 1 0 ≡ 0) (sym (s .hours)) (s .sound .unused R no-row 1)))
 
-  sure-now : (m : ℕ) → confirmedAfter H l c m ≡ isConfirmed (row H l m)
+  after-nothing : (m : ℕ) → confirmedAfter H l c m ≡ isConfirmed (row H l m)
   unfolding confirmedAfter
-  sure-now m =
+  after-nothing m =
       ap (λ (j : ℕ). pick (eqb m j) (c .confirmed) (isConfirmed (row H l m))) (k .own)
       ∙ ap (λ (b : Bool). pick (eqb m R) b (isConfirmed (row H l m))) (k .confirmed)
       ∙ go (ℕ-discrete m R)
@@ -236,7 +236,7 @@ module _ {l : List ℕ} {R H : ℕ} (s : SoundAt l R H) {c : Change} (k : Unchan
   unfolding useBy addedBy useOf countsOn holdsOn countsBy
   use-now st mw x h =
       sum-cong (used l) _ _ (λ m lt.
-      ap (λ (b : Bool). pick b (heldIn H (row H l m) c st mw m h) 0) (counts-cong H l (confirmedAfter H l c) (λ j. isConfirmed (row H l j)) sure-now x m)
+      ap (λ (b : Bool). pick b (heldIn H (row H l m) c st mw m h) 0) (counts-cong H l (confirmedAfter H l c) (λ j. isConfirmed (row H l j)) after-nothing x m)
       ∙ ap (λ (v : ℕ). pick (countsBy H l (λ j. isConfirmed (row H l j)) x m) v 0) (held-now st mw h m (λ e. omega (arith, e, lt, no-row))))
 
   pub unchanged-fits : (st : ℕ) (mw : List ℕ) → st + length mw ≤ H → within mostMegawatts mw ≡ true → Changing l R H c st mw

@@ -7,9 +7,9 @@ use mathlib.Core.List.{List}
 use Prim.Native.Nat.{ℕ, _+_, _-_, _≤_, _<_}
 use native.Mathlib.Omega.{arith}
 use lib.Dec.{eqb, leb, lit<}
-use lib.ListN.{length, getD, List·getD-eq-default}
+use lib.ListN.{length, getD}
 use borrow.Author.Tests.{eq-eqb, ne-eqb, le-leb}
-use Rattle.words.specs.Lists.{wordAt, part, splice, zip2, roomy, covered, within, mostWord}
+use Rattle.words.specs.Lists.{wordAt, part, splice, zip2, roomy, covered, mostWord}
 use Rattle.words.proofs.Laws.{lt-or-le, all-below, within-at, part-length, part-at, zip-length, build-at, splice-length, splice-before, splice-in, splice-after}
 use Rattle.rules.specs.Pick.{pick}
 use Rattle.rules.specs.Numbers.{mostMegawatts, availablePart}
@@ -26,18 +26,6 @@ use Rattle.paths.specs.Changes.{heldIn, RowChanging, Sums, Adding, Takin
 zip-at : (f : ℕ → ℕ → ℕ) (a b : List ℕ) (k : ℕ) → k < length a → getD (zip2 f a b) k 0 ≡ f (getD a k 0) (getD b k 0)
 unfolding zip2
 zip-at f a b k lt = build-at (length a) _ k lt
-
-pub standing-most : (s : ℕ) (v : List ℕ) (h : ℕ) → within mostMegawatts v ≡ true → standing s v h ≤ mostMegawatts
-standing-most s v h e =
-    ⊎-elim
-    (λ u. omega (arith, standing-before s v u))
-    (λ u.
-    let i : h ≡ s + (h - s) = omega (arith, u) in
-    ⊎-elim
-    (λ t. omega (arith, standing-in s v (h - s) i, within-at mostMegawatts v e (h - s) t))
-    (λ t. omega (arith, standing-in s v (h - s) i, List·getD-eq-default v 0 t))
-    (lt-or-le (h - s) (length v)))
-    (lt-or-le h s)
 
 module _ (s : ℕ) (v sums : List ℕ) (fits : s + length v ≤ length sums) where
   -- each word there is f of what it was and v's

@@ -10,17 +10,17 @@ use lib.ListN.{length, getD}
 use Rattle.words.specs.Lists.{wordAt, sumBelow, noughts}
 use Rattle.words.proofs.Laws.{sum-none, sum-more, sum-bound, noughts-length, noughts-at}
 use Rattle.rules.specs.Pick.{pick}
-use Rattle.rules.specs.Numbers.{availablePart}
+use Rattle.rules.specs.Numbers.{mostMegawatts, availablePart}
 use Rattle.rules.specs.Layout.{used, row, hourAt, standing}
 use Rattle.rules.proofs.Picks.{hit}
 use Rattle.rules.proofs.SoundFacts.{SoundHours}
+use Rattle.rules.proofs.Bounded.{standing-most}
 use Rattle.rules.proofs.After.{countsBy}
 use Rattle.megawatts.specs.Placed.{Placed}
 use Rattle.megawatts.proofs.Laws.{sized, own-words, own-length}
 use Rattle.megawatts.proofs.Named.{placed-at}
 use Rattle.paths.specs.declared.Change.{Change}
 use Rattle.paths.specs.Changes.{confirmedAfter, heldIn, addedBy, useBy, mostAdded, Changing, RowChanging, Sums, Adds, Summed}
-use Rattle.paths.proofs.Hourly.{standing-most}
 
 -- ---- what row m adds, by whether it counts
 module _ (H : ℕ) (l : List ℕ) (c : Change) (s : ℕ) (mw : List ℕ) (x m : ℕ) {b : Bool} (e : b ≡ countsBy H l (confirmedAfter H l c) x m) where
@@ -58,7 +58,7 @@ module _ {l : List ℕ} {R H : ℕ} {c : Change} {s : ℕ} {mw : List ℕ} (g : 
   unfolding addedBy heldIn
   added-most x {m} {h} lt hlt =
       let a = words-of lt .most availablePart h (lit< tt) hlt in
-      let y = standing-most s mw h (g .most) in
+      let y = standing-most mostMegawatts s mw h (g .most) in
       pick-most (countsBy H l (confirmedAfter H l c) x m)
       (pick-most (eqb m (c .row)) (pick-most (c .holds) (omega (arith, y)) zero-le)
       (pick-most (eqb m (c .less)) (omega (arith, a)) (pick-most (eqb m (c .more)) (omega (arith, a, y)) (omega (arith, a)))))

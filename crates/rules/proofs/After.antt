@@ -1,6 +1,6 @@
 -- Use of a path after a confirmation or an annulment, from the ledger before it: row by row, so that one walk over the
 -- rows adds it up.
-use mathlib.Core.Path.{_≡_, refl, sym, ap, subst, _∙_}
+use mathlib.Core.Path.{_≡_, refl, sym, ap, _∙_}
 use mathlib.Core.Logic.{_≢_, _⊎_, inl, inr}
 use mathlib.Core.Bool.{Bool, true, false, _&&_, _||_, not}
 use mathlib.Core.List.{List}
@@ -16,6 +16,7 @@ use Rattle.words.proofs.Laws.{lt-or-le}
 use Rattle.column.specs.Sum.{gate, sumTo}
 use Rattle.column.specs.Column.{Off, share}
 use Rattle.column.specs.Use.{countsBy as countsIn}
+use Rattle.column.proofs.Flow.{by-one}
 use Rattle.column.proofs.Uses.{child-statuses, annul-child-statuses, give-statuses, confirmed-now, annulled-now, use-after}
 use Rattle.rules.specs.Pick.{pick}
 use Rattle.rules.specs.Numbers.{grantedPart, availablePart, NONFIRM-REDIRECT, RELINQUISH}
@@ -34,12 +35,12 @@ use Rattle.rules.proofs.Others.{returnedTo, is-annul-top, is-annul-chil
 use Rattle.rules.proofs.Tests.{sums, picked, use-column}
 
 -- ---- the definitions that code goes by
--- row m counts in the use of path x, where the rows that sure names are CONFIRMED
+-- row m counts in the use of path x, where the rows that confirmed names are CONFIRMED
 unfoldable pub countsBy : ℕ → List ℕ → (ℕ → Bool) → ℕ → ℕ → Bool
-countsBy H l sure x m =
-    sure m
+countsBy H l confirmed x m =
+    confirmed m
     && (eqb (path (row H l m)) x
-    || eqb (reqtype (row H l m)) NONFIRM-REDIRECT && (sure (relatedRow H l m) && eqb (path (row H l (relatedRow H l m))) x))
+    || eqb (reqtype (row H l m)) NONFIRM-REDIRECT && (confirmed (relatedRow H l m) && eqb (path (row H l (relatedRow H l m))) x))
 
 -- the rows that are CONFIRMED once row n is, and once it no longer is
 unfoldable pub confirmedWith : ℕ → List ℕ → ℕ → ℕ → Bool
@@ -75,19 +76,12 @@ unfoldable pub useAnnulling : ℕ → List ℕ → ℕ → ℕ → ℕ → ℕ
 useAnnulling H l n x h = sumBelow (used l) (λ m. pick (countsBy H l (confirmedBut H l n) x m) (heldAnnulling H l n h m) 0)
 
 -- ---- a column's sum is that of the rules
-from-column : (H h : ℕ) (l : List ℕ) (out : ℕ → ℕ → ℤ) (red : ℕ → ℤ) (sure : ℕ → Bool) (x : ℕ) (held : ℕ → ℕ) {u : ℕ} → u ≡ sumTo (used l) (λ m. gate (countsIn (view H h l out red) sure x m) (held m))
-    → u ≡ sumBelow (used l) (λ m. pick (countsBy H l sure x m) (held m) 0)
+from-column : (H h : ℕ) (l : List ℕ) (out : ℕ → ℕ → ℤ) (red : ℕ → ℤ) (confirmed : ℕ → Bool) (x : ℕ) (held : ℕ → ℕ) {u : ℕ} → u ≡ sumTo (used l) (λ m. gate (countsIn (view H h l out red) confirmed x m) (held m))
+    → u ≡ sumBelow (used l) (λ m. pick (countsBy H l confirmed x m) (held m) 0)
 unfolding countsBy relatedRow
-from-column H h l out red sure x held e = e ∙ sym (sums (used l) _ _ (λ m. picked (countsIn (view H h l out red) sure x m) (held m)))
+from-column H h l out red confirmed x held e = e ∙ sym (sums (used l) _ _ (λ m. picked (countsIn (view H h l out red) confirmed x m) (held m)))
 
--- by one row and the rest
-by-row : (P : ℕ → Type 0) (c : ℕ) → P c → ((m : ℕ) → m ≢ c → P m) → (m : ℕ) → P m
-by-row P c x f m = go (ℕ-discrete m c)
-  where
-    go : Dec (m ≡ c) → P m
-    go (yes e) = subst P (sym e) x
-    go (no e) = f m e
-
+-- at a row, and at another
 here : (m : ℕ) (u v : ℕ) → pick (eqb m m) u v ≡ u
 here m u v = ap (λ (b : Bool). pick b u v) (eq-eqb m m refl)
 
@@ -159,7 +153,7 @@ module _ {R H : ℕ} {l : List ℕ} {n : ℕ} (o : Placed R H l n) {h : ℕ} (hl
         from-column H h l none nought (confirmedWith H l n) x (heldConfirming H l n mw h)
         (use-column H h l′ none nought x
         ∙ use-after (C .keeps) (confirmedWith H l n) (confirmed-now (view H h l none nought) (view H h l′ none nought) n (λ m ne. C .rest m ne .st) (C .after)) (heldConfirming H l n mw h)
-        (by-row (λ m. confirmedWith H l n m ≡ true → megawatts H h (row H l′ m) availablePart ≡ heldConfirming H l n mw h m) n
+        (by-one (λ m. confirmedWith H l n m ≡ true → megawatts H h (row H l′ m) availablePart ≡ heldConfirming H l n mw h m) n
         (λ _. C .a ∙ top-granted o mw long hlt ∙ sym (held-top low n ∙ here n y (a n)))
         (λ m ne _. C .rest m ne .a ∙ sym (held-top low m ∙ there y (a m) ne))) x)
 
@@ -174,9 +168,9 @@ module _ {R H : ℕ} {l : List ℕ} {n : ℕ} (o : Placed R H l n) {h : ℕ} (hl
           from-column H h l none nought (confirmedWith H l n) x (heldConfirming H l n mw h)
           (use-column H h l′ drawn nought x
           ∙ use-after (C .keeps) (confirmedWith H l n) (confirmed-now (view H h l none nought) (view H h l′ drawn nought) n (child-statuses C) (C .after)) (heldConfirming H l n mw h)
-          (by-row (λ m. confirmedWith H l n m ≡ true → megawatts H h (row H l′ m) availablePart ≡ heldConfirming H l n mw h m) n
+          (by-one (λ m. confirmedWith H l n m ≡ true → megawatts H h (row H l′ m) availablePart ≡ heldConfirming H l n mw h m) n
           (λ _. C .a ∙ g ∙ sym (held-child least ne n ∙ here n y _))
-          (λ m mn. by-row (λ k. k ≢ n → confirmedWith H l n k ≡ true → megawatts H h (row H l′ k) availablePart ≡ heldConfirming H l n mw h k) p
+          (λ m mn. by-one (λ k. k ≢ n → confirmedWith H l n k ≡ true → megawatts H h (row H l′ k) availablePart ≡ heldConfirming H l n mw h k) p
           (λ k _. let d : megawatts H h (row H l′ p) availablePart ≡ a p - y = omega (arith, C .p-a, g) in d ∙ sym (held-child least ne p ∙ there y _ apart ∙ here p (a p - y) (a p)))
           (λ k kp kn _. C .rest k kn kp .a ∙ sym (held-child least ne k ∙ there y _ kn ∙ there (a k - y) (a k) kp)) m mn)) x)
         where
@@ -194,11 +188,11 @@ module _ {R H : ℕ} {l : List ℕ} {n : ℕ} (o : Placed R H l n) {h : ℕ} (hl
           from-column H h l none nought (confirmedWith H l n) x (heldConfirming H l n mw h)
           (use-column H h l′ drawn nought x
           ∙ use-after (C .keeps) (confirmedWith H l n) (confirmed-now (view H h l none nought) (view H h l′ drawn nought) n (give-statuses C) (C .after)) (heldConfirming H l n mw h)
-          (by-row (λ m. confirmedWith H l n m ≡ true → megawatts H h (row H l′ m) availablePart ≡ heldConfirming H l n mw h m) n
+          (by-one (λ m. confirmedWith H l n m ≡ true → megawatts H h (row H l′ m) availablePart ≡ heldConfirming H l n mw h m) n
           (λ _. C .a ∙ sym (held-give e n ∙ here n 0 _))
-          (λ m mn. by-row (λ k. k ≢ n → confirmedWith H l n k ≡ true → megawatts H h (row H l′ k) availablePart ≡ heldConfirming H l n mw h k) p
+          (λ m mn. by-one (λ k. k ≢ n → confirmedWith H l n k ≡ true → megawatts H h (row H l′ k) availablePart ≡ heldConfirming H l n mw h k) p
           (λ pn _. let d : megawatts H h (row H l′ p) availablePart ≡ a p - y = omega (arith, C .q-a, g) in d ∙ sym (held-give e p ∙ there 0 _ pn ∙ here p (a p - y) _))
-          (λ k kp. by-row (λ j. j ≢ p → j ≢ n → confirmedWith H l n j ≡ true → megawatts H h (row H l′ j) availablePart ≡ heldConfirming H l n mw h j) q
+          (λ k kp. by-one (λ j. j ≢ p → j ≢ n → confirmedWith H l n j ≡ true → megawatts H h (row H l′ j) availablePart ≡ heldConfirming H l n mw h j) q
           (λ qp qn s. C .p-a (with-now q qn s) ∙ ap (λ (z : ℕ). a q + z) g ∙ sym (held-give e q ∙ there 0 _ qn ∙ there (a q - y) _ qp ∙ here q (a q + y) (a q)))
           (λ j jq jp jn _. C .rest j jn jp jq .a ∙ sym (held-give e j ∙ there 0 _ jn ∙ there (a j - y) _ jp ∙ there (a j + y) (a j) jq)) k kp) m mn)) x)
         where
@@ -237,7 +231,7 @@ module _ {R H : ℕ} {l : List ℕ} {n : ℕ} (o : Placed R H l n) {h : ℕ} (hl
         from-column H h l none nought (confirmedBut H l n) x (heldAnnulling H l n h)
         (use-column H h l′ none nought x
         ∙ use-after (C .keeps) (confirmedBut H l n) (annulled-now (view H h l none nought) (view H h l′ none nought) n (λ m ne. C .rest m ne .st) (C .after .0)) (heldAnnulling H l n h)
-        (by-row (λ m. confirmedBut H l n m ≡ true → megawatts H h (row H l′ m) availablePart ≡ heldAnnulling H l n h m) n never
+        (by-one (λ m. confirmedBut H l n m ≡ true → megawatts H h (row H l′ m) availablePart ≡ heldAnnulling H l n h m) n never
         (λ m ne _. C .rest m ne .a ∙ sym (back-top low m))) x)
 
     use-annul-child : 3 ≤ reqtype (row H l n) → (x : ℕ) → useOf H (onRow H n (annulledRow H) (returnedTo H n l)) x h ≡ useAnnulling H l n x h
@@ -248,8 +242,8 @@ module _ {R H : ℕ} {l : List ℕ} {n : ℕ} (o : Placed R H l n) {h : ℕ} (hl
         from-column H h l none nought (confirmedBut H l n) x (heldAnnulling H l n h)
         (use-column H h l′ drawn nought x
         ∙ use-after (C .keeps) (confirmedBut H l n) (annulled-now (view H h l none nought) (view H h l′ drawn nought) n (annul-child-statuses C) (C .after .0)) (heldAnnulling H l n h)
-        (by-row (λ m. confirmedBut H l n m ≡ true → megawatts H h (row H l′ m) availablePart ≡ heldAnnulling H l n h m) n never
-        (λ m mn. by-row (λ k. k ≢ n → confirmedBut H l n k ≡ true → megawatts H h (row H l′ k) availablePart ≡ heldAnnulling H l n h k) p
+        (by-one (λ m. confirmedBut H l n m ≡ true → megawatts H h (row H l′ m) availablePart ≡ heldAnnulling H l n h m) n never
+        (λ m mn. by-one (λ k. k ≢ n → confirmedBut H l n k ≡ true → megawatts H h (row H l′ k) availablePart ≡ heldAnnulling H l n h k) p
         (λ pn s. C .p-a (but-now p pn s) ∙ sym (back-child least p ∙ here p (a p + g) (a p)))
         (λ k kp kn _. C .rest k kn kp .a ∙ sym (back-child least k ∙ there (a k + g) (a k) kp)) m mn)) x)
       where

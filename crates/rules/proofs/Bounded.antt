@@ -129,7 +129,7 @@ roomy-all : (bound : ℕ) (a b : List ℕ) → ((k : ℕ) → k < length a → g
 unfolding roomy
 roomy-all bound a b h = all-below _ (length a) (λ k lt. le-leb (getD a k 0 + getD b k 0) bound (h k lt))
 
-standing-most : (b s : ℕ) (v : List ℕ) (h : ℕ) → within b v ≡ true → standing s v h ≤ b
+pub standing-most : (b s : ℕ) (v : List ℕ) (h : ℕ) → within b v ≡ true → standing s v h ≤ b
 standing-most b s v h e =
     ⊎-elim
     (λ u. omega (arith, standing-before s v u))

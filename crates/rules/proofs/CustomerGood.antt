@@ -19,7 +19,6 @@ use Rattle.rules.specs.CustomerStatus.{bids, confirms, bidden, bidAfter,
 use Rattle.rules.specs.Tally.{Tally, feed}
 use Rattle.rules.specs.declared.Action.{Action}
 use Rattle.rules.specs.declared.Answer.{Answer}
-use Rattle.rules.proofs.SoundFacts.{SoundLedger}
 use Rattle.rules.proofs.Formed.{Formed, formed}
 use Rattle.rules.proofs.Leaves.{Leaves}
 use Rattle.rules.proofs.View.{view, outOf, redOf}

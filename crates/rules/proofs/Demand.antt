@@ -7,34 +7,32 @@ use Prim.Native.Nat.{ℕ, suc, _+_, _≤_, _<_}
 use native.Mathlib.Decide.{ℕ-discrete}
 use native.Mathlib.Omega.{arith}
 use borrow.Author.Tests.{eqb-true, eq-eqb, ne-eqb}
-use lib.Dec.{eqb, leb}
-use Rattle.words.proofs.Laws.{and-left, and-right}
+use lib.Dec.{eqb}
 use Rattle.rules.specs.Pick.{pick, _gives_else_, _isFrom_to_}
 use Rattle.rules.specs.Numbers.{entity}
 use Rattle.rules.specs.Layout.{hours, used, row, status}
 use Rattle.rules.specs.Sound.{sound}
-use Rattle.rules.specs.Submit.{submitNumber, submitAfter}
-use Rattle.rules.specs.SellerStatus.{sellerNumber, sellerAfter}
-use Rattle.rules.specs.CustomerStatus.{customerNumber, customerAfter}
-use Rattle.rules.specs.Approve.{approveNumber, approveAfter}
-use Rattle.rules.specs.Reduce.{reduceNumber, reduceAfter}
-use Rattle.rules.specs.Lapse.{lapseNumber, lapseAfter}
-use Rattle.rules.specs.Clock.{clockNumber, clockAfter}
+use Rattle.rules.specs.Submit.{submitAfter}
+use Rattle.rules.specs.SellerStatus.{sellerAfter}
+use Rattle.rules.specs.CustomerStatus.{customerAfter}
+use Rattle.rules.specs.Approve.{approveAfter}
+use Rattle.rules.specs.Reduce.{reduceAfter}
+use Rattle.rules.specs.Lapse.{lapseAfter}
+use Rattle.rules.specs.Clock.{clockAfter}
 use Rattle.rules.specs.Checks.{named, namedRow}
 use Rattle.rules.specs.Paths.{soundPostings, postedIn, unposted, overPosted}
-use Rattle.rules.specs.Post.{postNumber, posted}
+use Rattle.rules.specs.Post.{posted}
 use Rattle.rules.specs.Calls.{Run, Call, runCalls}
 use Rattle.rules.specs.Create.{goodNumbers, fresh}
 use Rattle.rules.specs.Act.{byKind, kindNumber, kindAfter, postingsAfter, commonNumber, overUse, number, refusal, acceptance, answered, Outcome, refused, accepted, step, soundBoth, outcome}
 use Rattle.rules.specs.Tally.{Tally, counts, feed}
 use Rattle.rules.specs.declared.Action.{Action}
-use Rattle.rules.specs.declared.Answer.{Answer}
 use Rattle.rules.proofs.View.{outOf, redOf}
 use Rattle.rules.proofs.SoundFacts.{SoundLedger, facts-sound}
 use Rattle.rules.proofs.Passed.{PostPassed, submit-passed, seller-status-passed, customer-status-passed, approve-passed, reduce-passed, lapse-passed, clock-passed, post-passed}
 use Rattle.rules.proofs.Posts.{SoundPostings, postings-facts, posted-other}
 use Rattle.rules.proofs.Tests.{use-column, within-posting, Left, tests, over-posting, over-named}
-use Rattle.rules.proofs.Soundness.{number-passed, sound-next, head-next, kind-passed}
+use Rattle.rules.proofs.Soundness.{number-passed, sound-next, head-next, kind-passed, number-of}
 use Rattle.rules.proofs.TallyLaws.{feed-none}
 use Rattle.rules.proofs.Good.{Good}
 use Rattle.column.proofs.Uses.{post-within}
@@ -75,10 +73,6 @@ module _ {l ps : List ℕ} {t : Tally} (G : Good (bound (hours l) ps) l t) (S : 
   by-kind : {n : ℕ} {next : List ℕ} → kindNumber H l w a ≡ n → kindAfter H l w a ≡ next → (n ≡ 0 → SoundLedger next → Kept next) → Kept (kindAfter H l w a)
   by-kind p q f = subst Kept (sym q) (f (passed p) (subst SoundLedger q (sound-next (G .sound) ps w a e)))
 
-  number-of : {k : ℕ} → a .kind ≡ k → kindNumber H l w a ≡ byKind k (submitNumber H l w a) (sellerNumber H l w a) (customerNumber H l w a) (approveNumber H l a) (reduceNumber H l w a) (lapseNumber H l a) (clockNumber l a) (postNumber H l w a)
-  unfolding kindNumber
-  number-of q = ap (λ (k : ℕ). byKind k (submitNumber H l w a) (sellerNumber H l w a) (customerNumber H l w a) (approveNumber H l a) (reduceNumber H l w a) (lapseNumber H l a) (clockNumber l a) (postNumber H l w a)) q
-
   after-of : {k : ℕ} → a .kind ≡ k → kindAfter H l w a ≡ byKind k (submitAfter H l w a) (sellerAfter H l w a) (customerAfter H l w a) (approveAfter H l a) (reduceAfter H l w a) (lapseAfter H l a) (clockAfter l a) l
   unfolding kindAfter
   after-of q = ap (λ (k : ℕ). byKind k (submitAfter H l w a) (sellerAfter H l w a) (customerAfter H l w a) (approveAfter H l a) (reduceAfter H l w a) (lapseAfter H l a) (clockAfter l a) l) q
@@ -102,33 +96,33 @@ module _ {l ps : List ℕ} {t : Tally} (G : Good (bound (hours l) ps) l t) (S : 
       }
 
   submitted : a .kind ≡ 1 → Kept (kindAfter H l w a)
-  submitted q = by-kind (number-of q) (after-of q) (λ n s. submit-good G w a (submit-passed H l w a n) s (submit-answer H l w a (submitAfter H l w a) (apart q (λ z. omega (arith, z))) (apart q (λ z. omega (arith, z))) q) q)
+  submitted q = by-kind (number-of H l w a q) (after-of q) (λ n s. submit-good G w a (submit-passed H l w a n) s (submit-answer H l w a (submitAfter H l w a) (apart q (λ z. omega (arith, z))) (apart q (λ z. omega (arith, z))) q) q)
 
   sold : a .kind ≡ 2 → Kept (kindAfter H l w a)
   sold q =
-      by-kind (number-of q) (after-of q)
+      by-kind (number-of H l w a q) (after-of q)
       (λ n s. let P = seller-status-passed H l w a n in seller-good G w a P (left (apart q (λ z. omega (arith, z))) (apart q (λ z. omega (arith, z))) (P .reference) (after-of q) s) (named-answer H l w a (sellerAfter H l w a) (apart q (λ z. omega (arith, z))) (apart q (λ z. omega (arith, z))) (apart q (λ z. omega (arith, z)))) q)
 
   bought : a .kind ≡ 3 → Kept (kindAfter H l w a)
   bought q =
-      by-kind (number-of q) (after-of q)
+      by-kind (number-of H l w a q) (after-of q)
       (λ n s. let P = customer-status-passed H l w a n in customer-good G w a P (left (apart q (λ z. omega (arith, z))) (apart q (λ z. omega (arith, z))) (P .reference) (after-of q) s) (named-answer H l w a (customerAfter H l w a) (apart q (λ z. omega (arith, z))) (apart q (λ z. omega (arith, z))) (apart q (λ z. omega (arith, z)))) q)
 
   approves : a .kind ≡ 4 → Kept (kindAfter H l w a)
   approves q =
-      by-kind (number-of q) (after-of q)
+      by-kind (number-of H l w a q) (after-of q)
       (λ n s. let P = approve-passed H l a n in approve-good G w a P (left (apart q (λ z. omega (arith, z))) (apart q (λ z. omega (arith, z))) (P .reference) (after-of q) s) (named-answer H l w a (approveAfter H l a) (apart q (λ z. omega (arith, z))) (apart q (λ z. omega (arith, z))) (apart q (λ z. omega (arith, z)))) q)
 
   reduces : a .kind ≡ 5 → Kept (kindAfter H l w a)
-  reduces q = by-kind (number-of q) (after-of q) (λ n s. reduce-good G w a (reduce-passed H l w a n) s (named-answer H l w a (reduceAfter H l w a) (apart q (λ z. omega (arith, z))) (apart q (λ z. omega (arith, z))) (apart q (λ z. omega (arith, z)))) q)
+  reduces q = by-kind (number-of H l w a q) (after-of q) (λ n s. reduce-good G w a (reduce-passed H l w a n) s (named-answer H l w a (reduceAfter H l w a) (apart q (λ z. omega (arith, z))) (apart q (λ z. omega (arith, z))) (apart q (λ z. omega (arith, z)))) q)
 
   lapses : a .kind ≡ 6 → Kept (kindAfter H l w a)
   lapses q =
-      by-kind (number-of q) (after-of q)
+      by-kind (number-of H l w a q) (after-of q)
       (λ n s. let P = lapse-passed H l a n in lapse-good G w a P (left (apart q (λ z. omega (arith, z))) (apart q (λ z. omega (arith, z))) (P .reference) (after-of q) s) (named-answer H l w a (lapseAfter H l a) (apart q (λ z. omega (arith, z))) (apart q (λ z. omega (arith, z))) (apart q (λ z. omega (arith, z)))) q)
 
   ticks : a .kind ≡ 7 → Kept (kindAfter H l w a)
-  ticks q = by-kind (number-of q) (after-of q) (λ n s. clock-good G w a s q)
+  ticks q = by-kind (number-of H l w a q) (after-of q) (λ n s. clock-good G w a s q)
 
   -- a posting leaves the ledger as it is; the path posted is tested, the others' postings stay, and the answer is not
   -- counted
@@ -156,7 +150,7 @@ module _ {l ps : List ℕ} {t : Tally} (G : Good (bound (hours l) ps) l t) (S : 
       is-posted = ap (λ (b : Bool). pick b (posted H ps w a) ps) (eq-eqb (a .kind) 8 q)
 
       P : PostPassed H w a
-      P = post-passed H l w a (passed (number-of q))
+      P = post-passed H l w a (passed (number-of H l w a q))
 
       over : overPosted H l (posted H ps w a) (a .path) ≡ false
       over =

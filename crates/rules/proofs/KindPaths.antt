@@ -1,9 +1,9 @@
 -- Number 22 by the kind of the action, from the ledger before it.
 use mathlib.Core.Path.{_≡_, refl, sym, ap, subst, _∙_}
-use mathlib.Core.Logic.{_≢_, _⊎_, inl, inr}
+use mathlib.Core.Logic.{_≢_}
 use mathlib.Core.Bool.{Bool, true, false, _&&_}
 use mathlib.Core.List.{List}
-use Prim.Native.Nat.{ℕ, _+_, _-_, _<_}
+use Prim.Native.Nat.{ℕ, _+_, _-_, _≤_, _<_}
 use native.Mathlib.Decide.{ℕ-discrete}
 use native.Mathlib.Omega.{arith}
 use borrow.Author.Tests.{eqb-true, eqb-false}
@@ -11,8 +11,9 @@ use lib.Dec.{eqb, lit<}
 use lib.ListN.{length}
 use Rattle.column.specs.Column.{Off}
 use Rattle.rules.specs.Pick.{pick, when}
-use Rattle.rules.specs.Numbers.{approved, ACCEPTED, CR-ACCEPTED, CONFIRMED, DISPLACED, ANNULLED, RETRACTED}
+use Rattle.rules.specs.Numbers.{mostStatus, approved, ACCEPTED, CR-ACCEPTED, CONFIRMED, DISPLACED, ANNULLED, RETRACTED}
 use Rattle.rules.specs.Layout.{rows, hours, window, clock, used, rowOf, row, onRow, status, start, spanHours, has, raise, setStatus}
+use Rattle.rules.specs.Moves.{confirmedOrAnnulled}
 use Rattle.rules.specs.Megawatts.{inForce, displace, annul, reduce}
 use Rattle.rules.specs.Confirming.{confirm, confirmNumber, unconfirmed, short}
 use Rattle.rules.specs.Checks.{named, namedRow, profile, comes, waitsAt}
@@ -23,7 +24,7 @@ use Rattle.rules.specs.Reduce.{reduceAfter}
 use Rattle.rules.specs.Lapse.{lapseAfter}
 use Rattle.rules.specs.Submit.{newWords, submitAfter}
 use Rattle.rules.specs.Clock.{clockAfter}
-use Rattle.rules.specs.Paths.{overPosted, overAt, takesPath}
+use Rattle.rules.specs.Paths.{overPosted, overAt}
 use Rattle.rules.specs.Act.{subject, statusBefore, usesPath, overUse}
 use Rattle.rules.specs.declared.Action.{Action}
 use Rattle.rules.proofs.Rows.{row-length, head-row}
@@ -32,7 +33,7 @@ use Rattle.rules.proofs.SoundFacts.{SoundLedger, sized}
 use Rattle.rules.proofs.Formed.{Formed, formed}
 use Rattle.rules.proofs.Leaves.{Leaves}
 use Rattle.rules.proofs.Effects.{own-leaves, displace-leaves, annul-leaves, reduce-leaves, confirm-leaves, kin-taken, inside-own, row-spanned, displaced-length, annulled-length}
-use Rattle.rules.proofs.Passed.{SubmitPassed, ConfirmPassed, confirm-passed, SellerPassed, OfferPassed, CustomerPassed, BidPassed, ApprovePassed, ReducePassed, LapsePassed, SellerMove, seller-move, CustomerMove, customer-move, annuls-from, annuls-open, open-off, profile-length}
+use Rattle.rules.proofs.Passed.{SubmitPassed, ConfirmPassed, confirm-passed, SellerPassed, CustomerPassed, BidPassed, ApprovePassed, ReducePassed, LapsePassed, SellerMove, seller-move, CustomerMove, customer-move, annuls-from, annuls-open, open-off, lapsing-off, profile-length}
 use Rattle.rules.proofs.Submitted.{submit-opens, new-field}
 use Rattle.rules.proofs.Placed.{placed}
 use Rattle.rules.proofs.Quiet.{offered-calm, bidden-calm, approved-calm}
@@ -60,11 +61,11 @@ module _ {l : List ℕ} (s : SoundLedger l) (a : Action) (lt : named a < used l)
   F = formed s
 
   -- the row is confirmed, or annulled from 13: its paths are tested
-  takes : (next : List ℕ) → takesPath (status (namedRow (hours l) l a)) (status (row (hours l) next (named a))) ≡ true → overUse (hours l) l a next ps ≡ overAt (hours l) l (named a) next ps
+  takes : (next : List ℕ) → confirmedOrAnnulled (status (namedRow (hours l) l a)) (status (row (hours l) next (named a))) ≡ true → overUse (hours l) l a next ps ≡ overAt (hours l) l (named a) next ps
   takes next e = use-named H l a next ps n1 n8 ∙ ap (λ (b : Bool). b && overAt H l n next ps) e
 
   -- or neither
-  spares : (next : List ℕ) → takesPath (status (namedRow (hours l) l a)) (status (row (hours l) next (named a))) ≡ false → overUse (hours l) l a next ps ≡ false
+  spares : (next : List ℕ) → confirmedOrAnnulled (status (namedRow (hours l) l a)) (status (row (hours l) next (named a))) ≡ false → overUse (hours l) l a next ps ≡ false
   spares next e = use-named H l a next ps n1 n8 ∙ ap (λ (b : Bool). b && overAt H l n next ps) e
 
   -- what it goes by, once row n is confirmed with mw
@@ -103,7 +104,11 @@ module _ {l : List ℕ} (s : SoundLedger l) (a : Action) (lt : named a < used l)
             (m ∙ ap spanHours (sym (L .own)))
             (subst (λ (z : List ℕ). Room H (start z) mw z) (sym (L .own)) (record { long = same .long; fits = omega (arith, long, same .start, row-spanned F lt .starts, row-spanned F lt .stops) }))
 
-  -- a status is set, and the row was not CONFIRMED and is not
+  -- a status is set
+  now-set : {v : ℕ} → 1 ≤ v → v ≤ mostStatus → status (row (hours l) (onRow (hours l) (named a) (setStatus v) l) (named a)) ≡ v
+  now-set {v} least most = let k = same-status (same-self F lt) least most in ap status (own-leaves F lt (setStatus v) (k .long) .own) ∙ set-status r v H (k .long)
+
+  -- and the row was not CONFIRMED and is not
   use-status : (next : List ℕ) {v : ℕ} → status (row (hours l) next (named a)) ≡ v → status (namedRow (hours l) l a) ≢ CONFIRMED → v ≢ CONFIRMED → overUse (hours l) l a next ps ≡ false
   use-status next now x y = spares next (takes-none _ _ x (λ z. y (sym now ∙ z)))
 
@@ -148,9 +153,6 @@ module _ {l : List ℕ} (s : SoundLedger l) (a : Action) (lt : named a < used l)
         u : Bool
         u = exceedsAt H l n ps (λ x h. useAnnulling H l n x h)
 
-        named-status : status (row H (onRow H n (setStatus (a .status)) l) n) ≡ a .status
-        named-status = let k = same-status (same-self F lt) (P .status .0) (P .status .1) in ap status (own-leaves F lt (setStatus (a .status)) (k .long) .own) ∙ set-status r (a .status) H (k .long)
-
         quiet : a .status ≢ DISPLACED → annulsConfirmed a r ≡ false → (status r ≢ CONFIRMED) × (a .status ≢ CONFIRMED)
         quiet ne e = by (ℕ-discrete (a .status) ANNULLED)
           where
@@ -169,7 +171,7 @@ module _ {l : List ℕ} (s : SoundLedger l) (a : Action) (lt : named a < used l)
             let at = annuls-from a r y in
             let now : status (row H (annul H n l) n) ≡ ANNULLED = ap status (annul-leaves F lt .own) ∙ row-annulled H r (annulled-length (row-spanned F lt)) in
             takes (annul H n l) (takes-annulled _ _ (at .1) now) ∙ paths-annulling s lt ps (move .annuls-confirmed (at .0) (at .1)) (at .1) (P .whole y)
-        go false false x y = let m = quiet (eqb-false _ _ x) y in use-status (onRow H n (setStatus (a .status)) l) named-status (m .0) (m .1)
+        go false false x y = let m = quiet (eqb-false _ _ x) y in use-status (onRow H n (setStatus (a .status)) l) (now-set (P .status .0) (P .status .1)) (m .0) (m .1)
 
     pub seller-use : overUse (hours l) l a (sellerAfter (hours l) l w a) ps
         ≡ pick (offers a) (goesOn a (namedRow (hours l) l a) && exceedsAt (hours l) l (named a) ps (λ x h. useConfirming (hours l) l (named a) (grantedAfter (hours l) w a (namedRow (hours l) l a)) x h))
@@ -223,12 +225,9 @@ module _ {l : List ℕ} (s : SoundLedger l) (a : Action) (lt : named a < used l)
     unfolding customerAfter
     customer-use = go (bids a) refl
       where
-        withdrawn : status (row H (onRow H n (setStatus (a .status)) l) n) ≡ a .status
-        withdrawn = let k = same-status (same-self F lt) (P .status .0) (P .status .1) in ap status (own-leaves F lt (setStatus (a .status)) (k .long) .own) ∙ set-status r (a .status) H (k .long)
-
         go : (b : Bool) → bids a ≡ b → overUse H l a (pick b (bidAfter H l w a) (onRow H n (setStatus (a .status)) l)) ps ≡ (b && (confirms a && confirmed (inForce H r)))
         go true o = use-bid o
-        go false o = use-status (onRow H n (setStatus (a .status)) l) withdrawn (bought .before .0) (no-bid a o .1)
+        go false o = use-status (onRow H n (setStatus (a .status)) l) (now-set (P .status .0) (P .status .1)) (bought .before .0) (no-bid a o .1)
 
   -- ---- 4 Approve
   pub approve-use : ApprovePassed (hours l) l a → overUse (hours l) l a (approveAfter (hours l) l a) ps
@@ -265,26 +264,18 @@ module _ {l : List ℕ} (s : SoundLedger l) (a : Action) (lt : named a < used l)
   lapse-use P = go (waitsAt CR-ACCEPTED r) refl
     where
       off : Off (status r)
-      off = by (P .status)
-        where
-          by : (status r ≡ 6) ⊎ ((status r ≡ 7) ⊎ ((status r ≡ 10) ⊎ (status r ≡ 11))) → Off (status r)
-          by (inl e) = (λ z. omega (arith, e, z), λ z. omega (arith, e, z))
-          by (inr (inl e)) = (λ z. omega (arith, e, z), λ z. omega (arith, e, z))
-          by (inr (inr (inl e))) = (λ z. omega (arith, e, z), λ z. omega (arith, e, z))
-          by (inr (inr (inr e))) = (λ z. omega (arith, e, z), λ z. omega (arith, e, z))
+      off = lapsing-off (P .status)
 
       go : (b : Bool) → waitsAt CR-ACCEPTED r ≡ b → overUse H l a (pick b (confirm H n (inForce H r) l) (onRow H n (setStatus RETRACTED) l)) ps ≡ (b && confirmed (inForce H r))
       go true q = use-confirms off (inForce H r) (fitting-force (same-self F lt) .counted) (has approved r) (P .confirms q)
-      go false q =
-          let k = same-status (same-self F lt) {s = RETRACTED} (omega arith) (omega arith) in
-          use-status (onRow H n (setStatus RETRACTED) l) (ap status (own-leaves F lt (setStatus RETRACTED) (k .long) .own) ∙ set-status r RETRACTED H (k .long)) (off .0) (λ z. omega (arith, z))
+      go false q = use-status (onRow H n (setStatus RETRACTED) l) (now-set (omega arith) (omega arith)) (off .0) (λ z. omega (arith, z))
 
 -- ---- the kinds that name no row
 -- a status that stays
-takes-same : (v : ℕ) → takesPath v v ≡ false
+takes-same : (v : ℕ) → confirmedOrAnnulled v v ≡ false
 takes-same v = go (ℕ-discrete v CONFIRMED)
   where
-    go : Dec (v ≡ CONFIRMED) → takesPath v v ≡ false
+    go : Dec (v ≡ CONFIRMED) → confirmedOrAnnulled v v ≡ false
     go (yes e) = takes-kept v v e (λ z. omega (arith, z, e))
     go (no ne) = takes-none v v ne ne
 
@@ -292,7 +283,7 @@ takes-same v = go (ℕ-discrete v CONFIRMED)
 pub submit-use : {l w : List ℕ} {a : Action} → SoundLedger l → SubmitPassed (hours l) l w a → (ps : List ℕ) → a .kind ≡ 1 → overUse (hours l) l a (submitAfter (hours l) l w a) ps ≡ false
 unfolding overUse usesPath subject statusBefore newWords
 submit-use {l} {w} {a} s P ps k =
-    ap (λ (j : ℕ). pick (eqb j 8) (overPosted H next ps (a .path)) (takesPath (pick (eqb j 1) 0 (status (namedRow H l a))) (status (row H next (rowOf (pick (eqb j 1) (used l + 1) (a .reference))))) && overAt H l (rowOf (pick (eqb j 1) (used l + 1) (a .reference))) next ps)) k
+    ap (λ (j : ℕ). pick (eqb j 8) (overPosted H next ps (a .path)) (confirmedOrAnnulled (pick (eqb j 1) 0 (status (namedRow H l a))) (status (row H next (rowOf (pick (eqb j 1) (used l + 1) (a .reference))))) && overAt H l (rowOf (pick (eqb j 1) (used l + 1) (a .reference))) next ps)) k
     ∙ ap (λ (b : Bool). b && overAt H l (rowOf (used l + 1)) next ps) (takes-none 0 _ (λ z. omega (arith, z)) (λ z. omega (arith, z, now)))
   where
     H : ℕ
@@ -313,7 +304,7 @@ submit-use {l} {w} {a} s P ps k =
 pub still-use : (H : ℕ) (l : List ℕ) (a : Action) (next ps : List ℕ) → a .kind ≢ 1 → a .kind ≢ 8 → row H next (named a) ≡ row H l (named a) → overUse H l a next ps ≡ false
 still-use H l a next ps n1 n8 e =
     use-named H l a next ps n1 n8
-    ∙ ap (λ (v : ℕ). takesPath (status (namedRow H l a)) v && overAt H l (named a) next ps) (ap status e)
+    ∙ ap (λ (v : ℕ). confirmedOrAnnulled (status (namedRow H l a)) v && overAt H l (named a) next ps) (ap status e)
     ∙ ap (λ (b : Bool). b && overAt H l (named a) next ps) (takes-same (status (namedRow H l a)))
 
 pub clock-use : (H : ℕ) (l : List ℕ) (a : Action) (ps : List ℕ) → a .kind ≡ 7 → overUse H l a (clockAfter l a) ps ≡ false

@@ -1,19 +1,19 @@
 -- Number 22 of a confirmation and of an annulment, from the ledger before it.
 use mathlib.Core.Path.{_≡_, sym, ap, subst, _∙_}
-use mathlib.Core.Logic.{_≢_, ⊎-elim}
+use mathlib.Core.Logic.{_≢_}
 use mathlib.Core.Bool.{Bool, true, false, _&&_, _||_, not}
 use mathlib.Core.List.{List}
-use Prim.Native.Nat.{ℕ, _+_, _-_, _≤_, _<_}
+use Prim.Native.Nat.{ℕ, _+_, _-_, _<_}
 use native.Mathlib.Decide.{ℕ-discrete}
 use native.Mathlib.Omega.{arith}
 use borrow.Author.Tests.{eq-eqb}
-use lib.Dec.{eqb, leb, ltb, lit<}
-use lib.ListN.{length, getD, List·getD-eq-default}
-use Rattle.words.specs.Lists.{wordAt, allBelow, sumBelow, equal, within}
-use Rattle.words.proofs.Laws.{lt-or-le, all-cong, sum-cong, within-at}
+use lib.Dec.{eqb, leb, lit<}
+use lib.ListN.{length}
+use Rattle.words.specs.Lists.{wordAt, allBelow, sumBelow, equal}
+use Rattle.words.proofs.Laws.{all-cong, sum-cong}
 use Rattle.column.specs.Column.{Off}
 use Rattle.rules.specs.Pick.{pick}
-use Rattle.rules.specs.Numbers.{profiles, mostMegawatts, grantedPart, availablePart, NONFIRM-REDIRECT, RELINQUISH}
+use Rattle.rules.specs.Numbers.{availablePart, NONFIRM-REDIRECT, RELINQUISH}
 use Rattle.rules.specs.Layout.{rows, hours, used, row, onRow, reqtype, status, path, start, relatedRow, spanHours, hourAt, granted, available, standing}
 use Rattle.rules.specs.Sound.{original}
 use Rattle.rules.specs.Moves.{isConfirmed}
@@ -27,7 +27,7 @@ use Rattle.rules.proofs.Placed.{Placed, placed, placed-in}
 use Rattle.rules.proofs.Kept.{Same, next-own}
 use Rattle.rules.proofs.Unmoved.{Unmoved, unmoved-turned, types-stay, starts-stay, stops-stay, paths-stay, related-stays}
 use Rattle.rules.proofs.Before.{unconfirmed-stays, short-stays}
-use Rattle.rules.proofs.After.{countsBy, confirmedWith, heldConfirming, heldAnnulling, useConfirming, useAnnulling, use-after-confirm, use-after-annul}
+use Rattle.rules.proofs.After.{countsBy, confirmedWith, heldConfirming, useConfirming, useAnnulling, use-after-confirm, use-after-annul}
 
 -- use, as uses x h says it of path x in hour h, exceeds the posting in an hour: of one path, and of the path of row n
 -- or its related row's
@@ -147,39 +147,3 @@ module _ {l : List ℕ} (s : SoundLedger l) {n : ℕ} (lt : n < used l) (ps : Li
   pub paths-annulling : reqtype (row (hours l) l n) ≢ RELINQUISH → status (row (hours l) l n) ≡ 13 → equal (available (hours l) (row (hours l) l n)) (granted (hours l) (row (hours l) l n)) ≡ true
       → overAt (hours l) l n (annul (hours l) n l) ps ≡ exceedsAt (hours l) l n ps (λ x h. useAnnulling (hours l) l n x h)
   paths-annulling type before whole = over-at H l n (annul H n l) ps (λ x h. useAnnulling H l n x h) (λ x h hlt. use-after-annul here hlt type before whole x)
-
--- ---- sums that a word holds: each row adds at most twice 100,000, since the last 1 is judged later
-standing-most : (s : ℕ) (mw : List ℕ) (h : ℕ) → within mostMegawatts mw ≡ true → standing s mw h ≤ mostMegawatts
-unfolding standing
-standing-most s mw h e = go (ltb h s)
-  where
-    word : getD mw (h - s) 0 ≤ mostMegawatts
-    word = ⊎-elim (λ u. within-at mostMegawatts mw e (h - s) u) (λ u. omega (arith, List·getD-eq-default mw 0 u)) (lt-or-le (h - s) (length mw))
-
-    go : (b : Bool) → pick b 0 (getD mw (h - s) 0) ≤ mostMegawatts
-    go true = omega arith
-    go false = word
-
-pick-most : (b : Bool) {u v k : ℕ} → u ≤ k → v ≤ k → pick b u v ≤ k
-pick-most true p q = p
-pick-most false p q = q
-
-module _ {l : List ℕ} (s : SoundLedger l) {m h : ℕ} (lt : m < used l) (hlt : h < hours l) where
-  word-most : (p : ℕ) → p < profiles → getD (row (hours l) l m) (hourAt (hours l) p h) 0 ≤ mostMegawatts
-  word-most p plt = s .profiles m lt .most p h plt hlt
-
-  pub held-confirming-most : (n : ℕ) (mw : List ℕ) → within mostMegawatts mw ≡ true → heldConfirming (hours l) l n mw h m ≤ mostMegawatts + mostMegawatts
-  unfolding heldConfirming
-  held-confirming-most n mw e =
-      let y = standing-most (start (row (hours l) l n)) mw h e in
-      let a = word-most availablePart (lit< tt) in
-      pick-most (eqb m n) (pick-most (eqb (reqtype (row (hours l) l n)) RELINQUISH) (omega arith) (omega (arith, y)))
-      (pick-most (not (original (reqtype (row (hours l) l n))) && eqb m (relatedRow (hours l) l n)) (omega (arith, a))
-      (pick-most (eqb (reqtype (row (hours l) l n)) RELINQUISH && eqb m (relatedRow (hours l) l (relatedRow (hours l) l n))) (omega (arith, a, y)) (omega (arith, a))))
-
-  pub held-annulling-most : {n : ℕ} → n < used l → heldAnnulling (hours l) l n h m ≤ mostMegawatts + mostMegawatts
-  unfolding heldAnnulling
-  held-annulling-most {n} nlt =
-      let a = word-most availablePart (lit< tt) in
-      let g = s .profiles n nlt .most grantedPart h (lit< tt) hlt in
-      pick-most (not (original (reqtype (row (hours l) l n))) && eqb m (relatedRow (hours l) l n)) (omega (arith, a, g)) (omega (arith, a))

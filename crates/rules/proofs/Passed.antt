@@ -19,7 +19,7 @@ use Rattle.rules.specs.Moves.{isOpen, isConfirmed, Move, opens, allowed,
 use Rattle.rules.specs.Megawatts.{inForce}
 use Rattle.rules.specs.Confirming.{unapproved, unconfirmed, short, partial, confirmNumber}
 use Rattle.rules.specs.Checks.{named, namedRow, profile, comes, badProfile, badIfComes, badWords, badSpan, unknownPath, badPrice, noReference, notProvider, badStatus, waitsAt, waitingNumber}
-use Rattle.rules.specs.Submit.{badType, badSeller, badFlags, unfitPath, badPath, goodRelated, badRelated, badParties, noRowLeft, submitNumber}
+use Rattle.rules.specs.Submit.{badType, badSeller, badFlags, badPath, goodRelated, badRelated, badParties, noRowLeft, submitNumber}
 use Rattle.rules.specs.SellerStatus.{notSeller, noSellerMove, offers, grantedAfter, unfitOffer, goesOn, fitNumber, offerNumber, annulsConfirmed, partlyUsed, sellerNumber}
 use Rattle.rules.specs.CustomerStatus.{notCustomer, noCustomerMove, bids, confirms, unfitBid, bidConfirmNumber, bidNumber, customerNumber}
 use Rattle.rules.specs.Approve.{notApprovable, approveNumber}
@@ -626,6 +626,13 @@ customer-move r new e =
 pub open-off : (r : List ℕ) → isOpen r ≡ true → Off (status r)
 unfolding isOpen every off
 open-off r e = off-facts (status r) (among-all off opens (status r) e refl)
+
+-- nor is one that lapses
+pub lapsing-off : {s : ℕ} → (s ≡ 6) ⊎ ((s ≡ 7) ⊎ ((s ≡ 10) ⊎ (s ≡ 11))) → Off s
+lapsing-off (inl e) = (λ z. omega (arith, e, z), λ z. omega (arith, e, z))
+lapsing-off (inr (inl e)) = (λ z. omega (arith, e, z), λ z. omega (arith, e, z))
+lapsing-off (inr (inr (inl e))) = (λ z. omega (arith, e, z), λ z. omega (arith, e, z))
+lapsing-off (inr (inr (inr e))) = (λ z. omega (arith, e, z), λ z. omega (arith, e, z))
 
 -- annulling from 13, or not
 pub annuls-from : (a : Action) (r : List ℕ) → annulsConfirmed a r ≡ true → (a .status ≡ ANNULLED) × (status r ≡ CONFIRMED)

@@ -31,7 +31,7 @@ use Rattle.rules.proofs.SoundFacts.{SoundLedger}
 use Rattle.rules.proofs.Formed.{Formed, formed}
 use Rattle.rules.proofs.View.{view, outOf, redOf}
 use Rattle.rules.proofs.Effects.{own-leaves, reduce-leaves, confirm-leaves, kin-taken, inside-own}
-use Rattle.rules.proofs.Passed.{ApprovePassed, ReducePassed, LapsePassed, ConfirmPassed, confirm-passed, profile-length, waits-at, open-off}
+use Rattle.rules.proofs.Passed.{ApprovePassed, ReducePassed, LapsePassed, ConfirmPassed, confirm-passed, profile-length, waits-at, open-off, lapsing-off}
 use Rattle.rules.proofs.Placed.{placed}
 use Rattle.rules.proofs.Others.{reduce-step}
 use Rattle.rules.proofs.Quiet.{status-step, approved-step, approved-calm}
@@ -63,13 +63,7 @@ module _ {B : ℕ → ℕ → ℕ} {l : List ℕ} {t : Tally} (G : Good B l t) (
   lapse-used = is-used G a (P .reference .0) (P .reference .1)
 
   lapse-off : Off (status (namedRow (hours l) l a))
-  lapse-off = go (P .status)
-    where
-      go : (status (namedRow (hours l) l a) ≡ 6) ⊎ ((status (namedRow (hours l) l a) ≡ 7) ⊎ ((status (namedRow (hours l) l a) ≡ 10) ⊎ (status (namedRow (hours l) l a) ≡ 11))) → Off (status (namedRow (hours l) l a))
-      go (inl e) = (λ z. omega (arith, e, z), λ z. omega (arith, e, z))
-      go (inr (inl e)) = (λ z. omega (arith, e, z), λ z. omega (arith, e, z))
-      go (inr (inr (inl e))) = (λ z. omega (arith, e, z), λ z. omega (arith, e, z))
-      go (inr (inr (inr e))) = (λ z. omega (arith, e, z), λ z. omega (arith, e, z))
+  lapse-off = lapsing-off (P .status)
 
   -- a preconfirmed 11 confirms
   lapse-confirms : waitsAt CR-ACCEPTED (namedRow (hours l) l a) ≡ true → Left B l (confirm (hours l) (named a) (inForce (hours l) (namedRow (hours l) l a)) l) (named a) (status (namedRow (hours l) l a)) (status (row (hours l) (confirm (hours l) (named a) (inForce (hours l) (namedRow (hours l) l a)) l) (named a)))

@@ -22,7 +22,6 @@ use Rattle.rules.specs.SellerStatus.{counters, accepts, offers, grantedA
 use Rattle.rules.specs.Tally.{Tally, grantedIn, changed, feed}
 use Rattle.rules.specs.declared.Action.{Action}
 use Rattle.rules.specs.declared.Answer.{Answer}
-use Rattle.rules.proofs.SoundFacts.{SoundLedger}
 use Rattle.rules.proofs.Formed.{Formed, formed}
 use Rattle.rules.proofs.View.{view, outOf, redOf}
 use Rattle.rules.proofs.Effects.{own-leaves, displace-leaves, annul-leaves, displaced-length, annulled-length, row-spanned}

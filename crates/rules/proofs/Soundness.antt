@@ -28,7 +28,7 @@ use Rattle.rules.specs.Clock.{clockNumber, clockAfter}
 use Rattle.rules.specs.Submit.{submitNumber}
 use Rattle.rules.specs.Paths.{soundPostings}
 use Rattle.rules.specs.Post.{postNumber, posted}
-use Rattle.rules.specs.Act.{byKind, kindNumber, kindAfter, postingsAfter, commonNumber, overUse, useNumber, lastNumber, soundNumber, number, Outcome, refused, accepted, step, soundBoth}
+use Rattle.rules.specs.Act.{byKind, kindNumber, kindAfter, postingsAfter, commonNumber, overUse, useNumber, lastNumber, soundNumber, number, refused, accepted, step, soundBoth}
 use Rattle.rules.specs.declared.Action.{Action}
 use Rattle.rules.proofs.Rows.{row-least, head-row}
 use Rattle.rules.proofs.SoundFacts.{SoundWords, SoundLedger, sound-facts, facts-sound}
@@ -293,10 +293,10 @@ kind-passed a e =
     let t = not-false _ (k .0) in
     (leb-true _ _ (and-left _ _ t), leb-true _ _ (and-right (leb 1 (a .kind)) _ t))
 
--- a posting that passed
-pub post-kind : (H : ℕ) (l w : List ℕ) (a : Action) → a .kind ≡ 8 → kindNumber H l w a ≡ postNumber H l w a
+-- the number of an action, by its kind
+pub number-of : (H : ℕ) (l w : List ℕ) (a : Action) {k : ℕ} → a .kind ≡ k → kindNumber H l w a ≡ byKind k (submitNumber H l w a) (sellerNumber H l w a) (customerNumber H l w a) (approveNumber H l a) (reduceNumber H l w a) (lapseNumber H l a) (clockNumber l a) (postNumber H l w a)
 unfolding kindNumber
-post-kind H l w a q = ap (λ (k : ℕ). byKind k (submitNumber H l w a) (sellerNumber H l w a) (customerNumber H l w a) (approveNumber H l a) (reduceNumber H l w a) (lapseNumber H l a) (clockNumber l a) (postNumber H l w a)) q
+number-of H l w a q = ap (λ (k : ℕ). byKind k (submitNumber H l w a) (sellerNumber H l w a) (customerNumber H l w a) (approveNumber H l a) (reduceNumber H l w a) (lapseNumber H l a) (clockNumber l a) (postNumber H l w a)) q
 
 -- postings stay sound
 pub postings-kept : (l ps w : List ℕ) (a : Action) → kindNumber (hours l) l w a ≡ 0 → SoundPostings (hours l) ps → SoundPostings (hours l) (postingsAfter (hours l) ps w a)
@@ -304,7 +304,7 @@ unfolding postingsAfter
 postings-kept l ps w a e S = go (eqb (a .kind) 8) refl
   where
     go : (b : Bool) → eqb (a .kind) 8 ≡ b → SoundPostings (hours l) (pick b (posted (hours l) ps w a) ps)
-    go true q = posted-sound S (post-passed (hours l) l w a (sym (post-kind (hours l) l w a (eqb-true _ _ q)) ∙ e))
+    go true q = posted-sound S (post-passed (hours l) l w a (sym (number-of (hours l) l w a (eqb-true _ _ q)) ∙ e))
     go false q = S
 
 pub both-facts : (l ps : List ℕ) → soundBoth l ps ≡ true → (sound l ≡ true) × (soundPostings (hours l) ps ≡ true)

@@ -1,14 +1,14 @@
 -- Use of a path, in the ledger and in its columns, and what an accepted action has passed of it.
-use mathlib.Core.Path.{_≡_, refl, sym, ap, subst, _∙_}
-use mathlib.Core.Logic.{_≢_, _⊎_, ⊎-elim, inl, inr}
+use mathlib.Core.Path.{_≡_, refl, sym, ap, _∙_}
+use mathlib.Core.Logic.{_≢_, _⊎_, ⊎-elim}
 use mathlib.Core.Bool.{Bool, true, false, _&&_, _||_, not}
 use mathlib.Core.List.{List}
 use Prim.Native.Nat.{ℕ, zero, suc, _+_, _-_, _≤_, _<_}
 use native.Mathlib.Omega.{arith}
-use borrow.Author.Tests.{eqb-true, leb-true, eq-eqb, ne-eqb, not-false}
+use borrow.Author.Tests.{leb-true, eq-eqb, ne-eqb, not-false}
 use lib.Dec.{eqb, leb}
 use lib.IntN.{ℤ}
-use Rattle.words.specs.Lists.{wordAt, sumBelow, allBelow}
+use Rattle.words.specs.Lists.{wordAt, sumBelow}
 use Rattle.words.proofs.Laws.{lt-or-le, all-at}
 use Rattle.column.specs.Sum.{gate, sumTo}
 use Rattle.column.specs.Use.{Tested, useOf as useIn, countsOn as countsIn}
@@ -16,8 +16,8 @@ use Rattle.rules.specs.Pick.{pick}
 use Rattle.rules.specs.Numbers.{availablePart, CONFIRMED, ANNULLED}
 use Rattle.rules.specs.Layout.{hours, used, rowOf, row, reqtype, status, related, path, relatedRow, hourAt}
 use Rattle.rules.specs.Sound.{original}
-use Rattle.rules.specs.Moves.{isConfirmed}
-use Rattle.rules.specs.Paths.{postedIn, holdsOn, countsOn, useOf, overPosted, overAt, takesPath}
+use Rattle.rules.specs.Moves.{isConfirmed, confirmedOrAnnulled}
+use Rattle.rules.specs.Paths.{postedIn, holdsOn, countsOn, useOf, overPosted, overAt}
 use Rattle.rules.specs.Checks.{named, namedRow}
 use Rattle.rules.specs.Act.{subject, statusBefore, usesPath, overUse}
 use Rattle.rules.specs.declared.Action.{Action}
@@ -50,16 +50,16 @@ within-posting H l ps x h e lt = leb-true _ _ (all-at (λ h. leb (useOf H l x h)
 -- it confirms the row, or annuls it from 13
 pub record Left (B : ℕ → ℕ → ℕ) (l l′ : List ℕ) (n old new : ℕ) : Type 0 where
   pub sound : SoundLedger l′
-  pub tested : takesPath old new ≡ true → (h : ℕ) → h < hours l → (out out′ : ℕ → ℕ → ℤ) (red red′ : ℕ → ℤ) → Tested (B h) (view (hours l) h l out red) (view (hours l) h l′ out′ red′) n
+  pub tested : confirmedOrAnnulled old new ≡ true → (h : ℕ) → h < hours l → (out out′ : ℕ → ℕ → ℤ) (red red′ : ℕ → ℤ) → Tested (B h) (view (hours l) h l out red) (view (hours l) h l′ out′ red′) n
 
-pub takes-confirmed : (old new : ℕ) → old ≢ CONFIRMED → new ≡ CONFIRMED → takesPath old new ≡ true
-unfolding takesPath
+pub takes-confirmed : (old new : ℕ) → old ≢ CONFIRMED → new ≡ CONFIRMED → confirmedOrAnnulled old new ≡ true
+unfolding confirmedOrAnnulled
 takes-confirmed old new a b =
     ap (λ (t : Bool). not t && eqb new CONFIRMED || t && eqb new ANNULLED) (ne-eqb old CONFIRMED a)
     ∙ ap (λ (t : Bool). t || false) (eq-eqb new CONFIRMED b)
 
-pub takes-annulled : (old new : ℕ) → old ≡ CONFIRMED → new ≡ ANNULLED → takesPath old new ≡ true
-unfolding takesPath
+pub takes-annulled : (old new : ℕ) → old ≡ CONFIRMED → new ≡ ANNULLED → confirmedOrAnnulled old new ≡ true
+unfolding confirmedOrAnnulled
 takes-annulled old new a b =
     ap (λ (t : Bool). not t && eqb new CONFIRMED || t && eqb new ANNULLED) (eq-eqb old CONFIRMED a)
     ∙ eq-eqb new ANNULLED b
@@ -93,28 +93,28 @@ module _ (H : ℕ) (l : List ℕ) (a : Action) (next ps : List ℕ) where
   use-posting q = ap (λ (b : Bool). pick b (overPosted H next ps (a .path)) (usesPath H l a next && overAt H l (rowOf (subject l a)) next ps)) (eq-eqb (a .kind) 8 q)
 
   -- of an action that names its row
-  pub use-named : a .kind ≢ 1 → a .kind ≢ 8 → overUse H l a next ps ≡ (takesPath (status (namedRow H l a)) (status (row H next (named a))) && overAt H l (named a) next ps)
+  pub use-named : a .kind ≢ 1 → a .kind ≢ 8 → overUse H l a next ps ≡ (confirmedOrAnnulled (status (namedRow H l a)) (status (row H next (named a))) && overAt H l (named a) next ps)
   unfolding overUse usesPath subject statusBefore
   use-named n1 n8 =
       ap (λ (b : Bool). pick b (overPosted H next ps (a .path)) (usesPath H l a next && overAt H l (rowOf (subject l a)) next ps)) (ne-eqb (a .kind) 8 n8)
-      ∙ ap (λ (b : Bool). takesPath (pick b 0 (status (namedRow H l a))) (status (row H next (rowOf (pick b (used l + 1) (a .reference))))) && overAt H l (rowOf (pick b (used l + 1) (a .reference))) next ps) (ne-eqb (a .kind) 1 n1)
+      ∙ ap (λ (b : Bool). confirmedOrAnnulled (pick b 0 (status (namedRow H l a))) (status (row H next (rowOf (pick b (used l + 1) (a .reference))))) && overAt H l (rowOf (pick b (used l + 1) (a .reference))) next ps) (ne-eqb (a .kind) 1 n1)
 
   module _ (e : overUse H l a next ps ≡ false) where
     pub over-posting : a .kind ≡ 8 → overPosted H next ps (a .path) ≡ false
     over-posting q = sym (use-posting q) ∙ e
 
-    pub over-named : a .kind ≢ 1 → a .kind ≢ 8 → takesPath (status (namedRow H l a)) (status (row H next (named a))) ≡ true → overAt H l (named a) next ps ≡ false
+    pub over-named : a .kind ≢ 1 → a .kind ≢ 8 → confirmedOrAnnulled (status (namedRow H l a)) (status (row H next (named a))) ≡ true → overAt H l (named a) next ps ≡ false
     over-named n1 n8 q = and-none _ _ (sym (use-named n1 n8) ∙ e) q
 
 -- ---- where the row is neither confirmed nor annulled from 13
-pub takes-none : (old new : ℕ) → old ≢ CONFIRMED → new ≢ CONFIRMED → takesPath old new ≡ false
-unfolding takesPath
+pub takes-none : (old new : ℕ) → old ≢ CONFIRMED → new ≢ CONFIRMED → confirmedOrAnnulled old new ≡ false
+unfolding confirmedOrAnnulled
 takes-none old new a b =
     ap (λ (t : Bool). not t && eqb new CONFIRMED || t && eqb new ANNULLED) (ne-eqb old CONFIRMED a)
     ∙ ap (λ (t : Bool). t || false) (ne-eqb new CONFIRMED b)
 
-pub takes-kept : (old new : ℕ) → old ≡ CONFIRMED → new ≢ ANNULLED → takesPath old new ≡ false
-unfolding takesPath
+pub takes-kept : (old new : ℕ) → old ≡ CONFIRMED → new ≢ ANNULLED → confirmedOrAnnulled old new ≡ false
+unfolding confirmedOrAnnulled
 takes-kept old new a b =
     ap (λ (t : Bool). not t && eqb new CONFIRMED || t && eqb new ANNULLED) (eq-eqb old CONFIRMED a)
     ∙ ne-eqb new ANNULLED b

@@ -1,13 +1,14 @@
--- Every action: its number, the ledger that it leaves, its answer.
+-- Every action: its number, the ledger and the postings that it leaves, its answer.
 use mathlib.Core.Bool.{Bool, _&&_, _||_, not}
 use mathlib.Core.List.{List}
 use Prim.Native.Nat.{ℕ, _+_}
 use lib.Dec.{eqb}
 use Rattle.words.specs.Lists.{total}
 use Rattle.rules.specs.Pick.{pick, _gives_else_, _onlyIf_, _orElse_, _isFrom_to_}
-use Rattle.rules.specs.Numbers.{mostKind, entity, CONFIRMED, DISPLACED, ANNULLED}
+use Rattle.rules.specs.Numbers.{mostKind, entity, CONFIRMED, DISPLACED}
 use Rattle.rules.specs.Layout.{hours, used, rowOf, row, status, granted, available}
 use Rattle.rules.specs.Sound.{sound}
+use Rattle.rules.specs.Moves.{confirmedOrAnnulled}
 use Rattle.rules.specs.Megawatts.{carriesOver}
 use Rattle.rules.specs.Checks.{namedRow, profile}
 use Rattle.rules.specs.Submit.{submitNumber, submitAfter}
@@ -17,7 +18,7 @@ use Rattle.rules.specs.Approve.{approveNumber, approveAfter}
 use Rattle.rules.specs.Reduce.{reduceNumber, reduceAfter}
 use Rattle.rules.specs.Lapse.{lapseNumber, lapseAfter}
 use Rattle.rules.specs.Clock.{clockNumber, clockAfter}
-use Rattle.rules.specs.Paths.{soundPostings, overPosted, overAt, takesPath}
+use Rattle.rules.specs.Paths.{soundPostings, overPosted, overAt}
 use Rattle.rules.specs.Post.{postNumber, posted}
 use Rattle.rules.specs.declared.Action.{Action}
 use Rattle.rules.specs.declared.Answer.{Answer}
@@ -59,7 +60,7 @@ statusBefore H l a = pick (eqb (a .kind) 1) 0 (status (namedRow H l a))
 
 -- the action confirms its row, or annuls it from 13; next is the ledger after it
 unfoldable pub usesPath : ℕ → List ℕ → Action → List ℕ → Bool
-usesPath H l a next = takesPath (statusBefore H l a) (status (row H next (rowOf (subject l a))))
+usesPath H l a next = confirmedOrAnnulled (statusBefore H l a) (status (row H next (rowOf (subject l a))))
 
 -- 22: use of the posted path, or of the row's path or its related row's, would exceed the posting in any hour; next and
 -- ps are the ledger and the postings after the action
@@ -90,13 +91,13 @@ number isSound l ps w a = commonNumber isSound a orElse soundNumber (hours l) l 
 unfoldable pub refusal : ℕ → Answer
 refusal n = record { number = n; reference = 0; before = 0; after = 0; moved = 0 }
 
--- MW-hours moved as a row went from a status to another: granted of a row confirmed or annulled from 13, else what was displaced, else 0. held is its available before, next the row after
+-- MW-hours moved as a row went from a status to another: granted of a row confirmed or annulled from 13, else what was
+-- displaced, else 0. held is its available before, next the row after
 unfoldable pub movedBetween : ℕ → ℕ → ℕ → ℕ → List ℕ → ℕ
 movedBetween H old new held next =
-    pick (not (eqb old CONFIRMED) && eqb new CONFIRMED) (total (granted H next)) (
-    pick (eqb old CONFIRMED && eqb new ANNULLED) (total (granted H next)) (
+    pick (confirmedOrAnnulled old new) (total (granted H next)) (
     pick (eqb old CONFIRMED && eqb new DISPLACED) held
-    0))
+    0)
 
 -- or what was reduced
 unfoldable pub movedBy : ℕ → List ℕ → Action → ℕ → ℕ → ℕ → List ℕ → ℕ
@@ -135,6 +136,7 @@ step isSound l ps w a =
     let n = number isSound l ps w a in
     pick (eqb n 0) (accepted l ps w a (kindAfter (hours l) l w a)) (refused l ps n)
 
+-- the ledger is sound, and the postings are so for its hours
 unfoldable pub soundBoth : List ℕ → List ℕ → Bool
 soundBoth l ps = sound l && soundPostings (hours l) ps
 

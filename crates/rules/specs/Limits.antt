@@ -1,6 +1,6 @@
 -- Path limits: one claim about every list of calls from a fresh ledger with all postings 0.
 use mathlib.Core.Path.{_≡_}
-use mathlib.Core.Bool.{Bool, true}
+use mathlib.Core.Bool.{true}
 use mathlib.Core.List.{List}
 use Prim.Native.Nat.{ℕ, _≤_, _<_}
 use Rattle.rules.specs.Numbers.{mostPath}

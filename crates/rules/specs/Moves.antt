@@ -4,7 +4,7 @@ use mathlib.Core.List.{List, [], _∷_}
 use Prim.Native.Nat.{ℕ}
 use lib.Dec.{eqb}
 use Rattle.rules.specs.Pick.{_among_}
-use Rattle.rules.specs.Numbers.{preconfirmed, coordinated, CONFIRMED, RELINQUISH}
+use Rattle.rules.specs.Numbers.{preconfirmed, coordinated, CONFIRMED, ANNULLED, RELINQUISH}
 use Rattle.rules.specs.Layout.{reqtype, status, has}
 
 abbrev pub opens : List ℕ
@@ -15,6 +15,10 @@ isOpen r = status r among opens
 
 unfoldable pub isConfirmed : List ℕ → Bool
 isConfirmed r = eqb (status r) CONFIRMED
+
+-- a row that goes from the status old to new is confirmed, or annulled from 13
+unfoldable pub confirmedOrAnnulled : ℕ → ℕ → Bool
+confirmedOrAnnulled old new = not (eqb old CONFIRMED) && eqb new CONFIRMED || eqb old CONFIRMED && eqb new ANNULLED
 
 -- `to these from these if this holds`
 pub record Move : Type 0 where

@@ -6,7 +6,7 @@ use lib.Dec.{eqb, leb}
 use lib.ListN.{length}
 use Rattle.words.specs.Lists.{wordAt, allBelow, sumBelow, noughts, within}
 use Rattle.rules.specs.Pick.{pick}
-use Rattle.rules.specs.Numbers.{mostPath, mostMegawatts, availablePart, CONFIRMED, ANNULLED, NONFIRM-REDIRECT}
+use Rattle.rules.specs.Numbers.{mostPath, mostMegawatts, availablePart, NONFIRM-REDIRECT}
 use Rattle.rules.specs.Layout.{used, row, reqtype, path, relatedRow, hourAt}
 use Rattle.rules.specs.Sound.{original}
 use Rattle.rules.specs.Moves.{isConfirmed}
@@ -51,7 +51,3 @@ unfoldable pub overAt : ℕ → List ℕ → ℕ → List ℕ → List ℕ → B
 overAt H l n next ps =
     overPosted H next ps (path (row H l n))
     || not (original (reqtype (row H l n))) && overPosted H next ps (path (row H l (relatedRow H l n)))
-
--- a row went from a status to another as it was confirmed, or annulled from 13
-unfoldable pub takesPath : ℕ → ℕ → Bool
-takesPath old new = not (eqb old CONFIRMED) && eqb new CONFIRMED || eqb old CONFIRMED && eqb new ANNULLED

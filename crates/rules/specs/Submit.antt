@@ -2,7 +2,7 @@
 use mathlib.Core.Bool.{Bool, _&&_, _||_, not}
 use mathlib.Core.List.{List, [], _∷_}
 use Prim.Native.Nat.{ℕ, _+_, _-_}
-use lib.Dec.{eqb, leb, ltb}
+use lib.Dec.{eqb, ltb}
 use Rattle.words.specs.Lists.{splice}
 use Rattle.rules.specs.Pick.{pick, _gives_else_, _then_, _isFrom_to_, _among_}
 use Rattle.rules.specs.Numbers.{mostType, entity, preconfirmed, coordinated, requestedPart, NONFIRM-REDIRECT, QUEUED}

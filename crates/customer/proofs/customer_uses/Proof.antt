@@ -21,8 +21,8 @@ S c = c .before .before .before .before .before
 bid : (c : tie.Else1) → bids (S (c .before) .args .a) ≡ true
 bid c = sym (c .before .is-bid .ensures) ∙ not-false _ (c .if1 .left)
 
-sure : (c : tie.Else2) → confirms (S (c .before .before .before) .args .a) ≡ true
-sure c = sym (c .before .is-confirming .ensures) ∙ not-false _ (c .if2 .left)
+confirming : (c : tie.Else2) → confirms (S (c .before .before .before) .args .a) ≡ true
+confirming c = sym (c .before .is-confirming .ensures) ∙ not-false _ (c .if2 .left)
 
 pub customer-uses-spec : {M : Type 1} → statement M
 customer-uses-spec =
@@ -42,7 +42,7 @@ customer-uses-spec =
         accepted-named (s .pre .0) (s .args .words .now) (s .args .a) (s .pre .1 .0) e .placed .row,
         (
           ap (λ (k : ℕ). short (s .args .hours) (s .args .l .now) k (inForce (s .args .hours) (row (s .args .hours) (s .args .l .now) k))) e
-              ∙ confirm-passed _ _ _ _ _ (customer-status-passed (s .args .hours) (s .args .l .now) (s .args .words .now) (s .args .a) (s .pre .1 .0) .bid (bid o) .confirms (sure c)) .short,
+              ∙ confirm-passed _ _ _ _ _ (customer-status-passed (s .args .hours) (s .args .l .now) (s .args .words .now) (s .args .a) (s .pre .1 .0) .bid (bid o) .confirms (confirming c)) .short,
           s .pre .1 .1,
         ),
       ),
@@ -51,5 +51,5 @@ customer-uses-spec =
     let k = c .before in
     let o = k .before .before in
     let s = S (o .before) in
-    and-goes _ _ _ (bid o) (and-goes _ _ _ (sure k)
+    and-goes _ _ _ (bid o) (and-goes _ _ _ (confirming k)
     (c .exceeds-confirming-own .ensures ∙ ap (λ (j : ℕ). exceedsOwn (s .args .hours) (s .args .l .now) j (s .args .postings .now)) (o .before .before .named .ensures)))))

@@ -4,7 +4,7 @@ use Prim.Native.Nat.{ℕ}
 use lib.Dec.{eqb}
 use borrow.Author.Needs.{needs}
 use Rattle.rules.proofs.Picks.{stops, goes}
-use Rattle.paths.proofs.Counts.{sure-is}
+use Rattle.paths.proofs.Counts.{after-is}
 use Rattle.paths.proofs.counting.is_holder.Statement.{statement}
 use Rattle.paths.proofs.counting.is_holder.Tie as tie
 
@@ -18,7 +18,7 @@ is-holder-spec =
     (λ c.
     let u = c .before in
     let s = u .before .before .before .before in
-    goes _ (sure-is _ _ _ _ (u .before .before .word-at .ensures) (u .confirmed-after .ensures)) (c .if1 .taken) (ap (λ (k : ℕ). eqb k (s .args .x)) (u .before .word-at2 .ensures)))
+    goes _ (after-is _ _ _ _ (u .before .before .word-at .ensures) (u .confirmed-after .ensures)) (c .if1 .taken) (ap (λ (k : ℕ). eqb k (s .args .x)) (u .before .word-at2 .ensures)))
     (λ c.
     let u = c .before in
-    stops _ (sure-is _ _ _ _ (u .before .before .word-at .ensures) (u .confirmed-after .ensures)) (c .if1 .left)))
+    stops _ (after-is _ _ _ _ (u .before .before .word-at .ensures) (u .confirmed-after .ensures)) (c .if1 .left)))
