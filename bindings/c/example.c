@@ -12,7 +12,9 @@
 enum {
     ROWS = 8,
     HOURS = 4,
-    LEDGER_WORDS = 8 + ROWS * (16 + 4 * HOURS),
+    PROFILES = 5,
+    ROW_WORDS = 16 + PROFILES * HOURS,
+    LEDGER_WORDS = 8 + ROWS * ROW_WORDS,
     POSTING_WORDS = 64 * HOURS,
     POSTS = 2,
     ACTIONS = 14
@@ -56,10 +58,10 @@ static const struct luddrisa_answer expected[ACTIONS] = {
     {0, 2, 13, 16, 100}, {15, 0, 0, 0, 0},
 };
 
-/* One profile of a row: 0 requested, 1 granted, 2 available, 3 displaced. */
+/* One profile of a row: 0 requested, 1 granted, 2 available, 3 displaced, 4 reduced. */
 static const uint32_t *profile(const uint32_t *ledger, uint32_t reference, uint32_t which)
 {
-    return ledger + 8 + (reference - 1) * (16 + 4 * HOURS) + 16 + which * HOURS;
+    return ledger + 8 + (reference - 1) * ROW_WORDS + 16 + which * HOURS;
 }
 
 /* Hands a list over, its profiles in the slice above. */
@@ -74,6 +76,7 @@ int main(void)
 {
     static const uint32_t displaced[HOURS] = {100, 100, 60, 70};
     static const uint32_t available[HOURS] = {0, 0, 40, 30};
+    static const uint32_t reduced[HOURS] = {0, 0, 0, 0};
     static const struct luddrisa_answer posted[POSTS];
     uint32_t ledger[LEDGER_WORDS];
     uint32_t postings[POSTING_WORDS] = {0};
@@ -99,6 +102,9 @@ int main(void)
     }
     differences += memcmp(profile(ledger, 1, 3), displaced, sizeof displaced) != 0;
     differences += memcmp(profile(ledger, 3, 2), available, sizeof available) != 0;
+    for (uint32_t reference = 1; reference <= 5; reference++) {
+        differences += memcmp(profile(ledger, reference, 4), reduced, sizeof reduced) != 0;
+    }
     for (int i = 0; i < POSTING_WORDS; i++) {
         differences += postings[i] != (i < 2 * HOURS ? 100u : 0u);
     }

@@ -4,13 +4,17 @@
  * Documents 01 and 02 state the rules; this page says how they are called.
  *
  * THE LEDGER is a slice of 32-bit words that the caller owns, keeps and may
- * store: 8 + rows * (16 + 4 * hours) words, neither more nor fewer.
+ * store: 8 + rows * (16 + 5 * hours) words, neither more nor fewer.
  *
  *   head      rows, hours, provider, confirmation window in seconds, base hour,
  *             now, rows used, 0
  *   row       type, status, customer, seller, related reference, start, stop,
- *             flags, bid, offer, limit, path, four zeros, then four profiles of
- *             `hours` words: requested, granted, available, displaced
+ *             flags, bid, offer, limit, path, four zeros, then five profiles of
+ *             `hours` words: requested, granted, available, displaced, reduced
+ *
+ * The row of reference n begins at word 8 + (n - 1) * (16 + 5 * hours), and its
+ * profile p, 0 requested to 4 reduced, 16 + p * hours further on. A profile has
+ * a word for every hour of the ledger, 0 outside the row's span.
  *
  * A reference (ASSIGNMENT_REF) counts from 1: reference n is the n-th row.
  * Entities are 1 to 65,535. Hours run from start up to, not including, stop.
@@ -56,13 +60,18 @@
  * as no profile; that of kind 8 may be all 0 and replaces the path's postings
  * from start to stop. Fields that a kind does not read are ignored.
  *
+ * A reduction takes its profile from the row's available and adds it to its
+ * reduced, hour by hour. Nothing else writes reduced: there stands what was cut
+ * from the row in all, also once it is displaced. A charge does not look at it.
+ *
  * ANSWERS   Accepted: 0, the reference, the status before (0 for a submission)
  * and after, and the MW-hours moved; the clock and a posting give five zeros.
  * Refused: the number and four zeros, and no word of the ledger or of the
  * postings changes.
  *
  *    1 ledger unsound or not to be created so, postings not 64 * hours words or
- *      one of them over 100,000, or an hour of a row would pass 100,000 MW
+ *      one of them over 100,000, or, judged last, an available, displaced or
+ *      reduced word would pass 100,000
  *    2 unknown kind, type or status         11 the row can't move so
  *    3 no entity, or not the right party    12 price too high, or price or
  *    4 no such reference                       capacity do not agree

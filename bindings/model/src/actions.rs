@@ -437,11 +437,15 @@ fn reduce(ledger: &mut [u32], words: &[u32], action: &Action) -> Outcome {
     let reducible = row.get(ledger, STATUS) == CONFIRMED && row.get(ledger, TYPE) != RELINQUISH;
     refuse_if(!reducible, BAD_MOVE)?;
     let reduction = profile(words, action, span_hours(ledger, row))?;
-    let span = row.span(ledger, AVAILABLE);
-    refuse_if(ledger[span.clone()].iter().zip(reduction).any(|(has, less)| has < less), SHORT)?;
+    let available = row.span(ledger, AVAILABLE);
+    let reduced = row.span(ledger, REDUCED_MW);
+    let short = ledger[available.clone()].iter().zip(reduction).any(|(has, less)| has < less);
+    refuse_if(short, SHORT)?;
+    refuse_if(sum_passes(&ledger[reduced.clone()], reduction), BAD_LEDGER)?;
 
-    for (has, less) in ledger[span].iter_mut().zip(reduction) {
-        *has -= less;
+    for ((from, to), mw) in available.zip(reduced).zip(reduction) {
+        ledger[from] -= mw;
+        ledger[to] += mw;
     }
     accepted(action.reference, CONFIRMED, CONFIRMED, sum(reduction))
 }

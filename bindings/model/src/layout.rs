@@ -5,7 +5,7 @@ use std::ops::Range;
 // Sizes.
 pub const HEAD_WORDS: usize = 8;
 pub const FIELD_WORDS: usize = 16;
-pub const PROFILES: usize = 4;
+pub const PROFILES: usize = 5;
 
 // Head words.
 pub const ROWS: usize = 0;
@@ -37,6 +37,7 @@ pub const REQUESTED: usize = 0;
 pub const GRANTED: usize = 1;
 pub const AVAILABLE: usize = 2;
 pub const DISPLACED_MW: usize = 3;
+pub const REDUCED_MW: usize = 4;
 
 // Bounds.
 pub const MAX_ROWS: u32 = 1_024;

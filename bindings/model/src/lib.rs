@@ -1,8 +1,8 @@
-//! The hourly reservation ledger of document 01 with the path limits of document
-//! 02, written from the papers alone.
+//! The hourly reservation ledger of document 01 with the path limits and the kept
+//! reductions of document 02, written from the papers alone.
 //!
 //! A ledger is a slice of 32-bit words: a head of 8 words, then R rows of
-//! 16 + 4 × H words each. What the provider posts for each path and hour stands
+//! 16 + 5 × H words each. What the provider posts for each path and hour stands
 //! in a second slice of 64 × H words. Everything here works in place on those
 //! words. The names follow the papers; `reqtype` is their type.
 //!

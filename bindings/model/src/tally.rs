@@ -149,26 +149,61 @@ fn add(to: &mut [i64], profile: &[u32], sign: i64) {
     }
 }
 
-/// Demand 3 for a sound ledger and the tally of the list that made it:
-/// entries and used rows agree; in each hour each row at 13 or 15 that is no
-/// type 8 has granted = available + displaced + the five, none of them negative;
-/// and granted of each such original is the sum of available + displaced +
-/// reduced over itself and all that descends from it.
+/// Demand 3 for a sound ledger and the tally of the list that made it: entries and
+/// used rows agree, no sum of any entry is negative, rows and trees balance by the
+/// tally's reduced and by the stored one, and in every row the two are the same.
 pub fn balanced(ledger: &[u32], tally: &Tally) -> Result<(), String> {
+    rows_agree(ledger, tally)?;
+    none_is_negative(tally)?;
+    for reduced in [Reduced::Tallied, Reduced::Stored] {
+        rows_balance(ledger, tally, reduced)?;
+        trees_balance(ledger, tally, reduced)?;
+    }
+    reductions_are_kept(ledger, tally)
+}
+
+/// Which reduced megawatts a balance goes by.
+#[derive(Clone, Copy, Debug)]
+enum Reduced {
+    /// The sum from the list.
+    Tallied,
+    /// The words of the row.
+    Stored,
+}
+
+impl Reduced {
+    fn of(self, ledger: &[u32], row: Row, entry: &Entry, hour: usize) -> i64 {
+        match self {
+            Reduced::Tallied => entry.reduced[hour],
+            Reduced::Stored => stored(ledger, row, REDUCED_MW, hour),
+        }
+    }
+}
+
+fn stored(ledger: &[u32], row: Row, profile: usize, hour: usize) -> i64 {
+    i64::from(ledger[row.profile(profile)][hour])
+}
+
+/// Available and displaced together.
+fn held(ledger: &[u32], row: Row, hour: usize) -> i64 {
+    stored(ledger, row, AVAILABLE, hour) + stored(ledger, row, DISPLACED_MW, hour)
+}
+
+fn is_counted(entry: &Entry) -> bool {
+    entry.status == CONFIRMED || entry.status == DISPLACED
+}
+
+/// The same references, types, statuses, related references and granted.
+fn rows_agree(ledger: &[u32], tally: &Tally) -> Result<(), String> {
     let used = ledger[USED];
-    let hours = ledger[HOURS] as usize;
     if !tally.entries.keys().copied().eq(1..=used) {
         let keys: Vec<_> = tally.entries.keys().collect();
         return Err(format!("{used} rows used, entries {keys:?}"));
     }
+    let hours = ledger[HOURS] as usize;
     if tally.hours != hours {
         return Err(format!("{hours} hours in the ledger, {} in the tally", tally.hours));
     }
-    let counted = |status| status == CONFIRMED || status == DISPLACED;
-    // The original above each reference, and its tree's sum hour by hour.
-    let mut original = vec![0; used as usize + 1];
-    let mut tree = vec![vec![0i64; hours]; used as usize + 1];
-
     for (&reference, entry) in &tally.entries {
         let row = Row::of(ledger, reference);
         let fields = [
@@ -184,54 +219,106 @@ pub fn balanced(ledger: &[u32], tally: &Tally) -> Result<(), String> {
             }
         }
         let granted = &ledger[row.profile(GRANTED)];
-        let available = &ledger[row.profile(AVAILABLE)];
-        let displaced = &ledger[row.profile(DISPLACED_MW)];
         if entry.granted != granted {
             return Err(format!(
                 "reference {reference}: granted {:?} in the tally, {granted:?} in the ledger",
                 entry.granted
             ));
         }
-        original[reference as usize] = if entry.reqtype <= ORIGINAL_NON_FIRM {
-            reference
-        } else {
-            original[entry.related as usize]
-        };
-        let sums = &mut tree[original[reference as usize] as usize];
-        for hour in 0..hours {
-            let held = i64::from(available[hour]) + i64::from(displaced[hour]);
-            sums[hour] += held + entry.reduced[hour];
-            if !counted(entry.status) || entry.reqtype == RELINQUISH {
-                continue;
+    }
+    Ok(())
+}
+
+/// Of any entry, whatever its status.
+fn none_is_negative(tally: &Tally) -> Result<(), String> {
+    for (reference, entry) in &tally.entries {
+        let five = [
+            ("resold", &entry.resold),
+            ("redirected", &entry.redirected),
+            ("transferred", &entry.transferred),
+            ("relinquished", &entry.relinquished),
+            ("reduced", &entry.reduced),
+        ];
+        for (name, sums) in five {
+            if let Some(hour) = sums.iter().position(|&mw| mw < 0) {
+                return Err(format!("reference {reference}, hour {hour}: {name} {}", sums[hour]));
             }
+        }
+    }
+    Ok(())
+}
+
+/// In each row at 13 or 15 that is no type 8: granted = available + displaced + the
+/// five.
+fn rows_balance(ledger: &[u32], tally: &Tally, by: Reduced) -> Result<(), String> {
+    for (&reference, entry) in &tally.entries {
+        if !is_counted(entry) || entry.reqtype == RELINQUISH {
+            continue;
+        }
+        let row = Row::of(ledger, reference);
+        for hour in 0..tally.hours {
+            let held = held(ledger, row, hour);
             let five = [
                 entry.resold[hour],
                 entry.redirected[hour],
                 entry.transferred[hour],
                 entry.relinquished[hour],
-                entry.reduced[hour],
+                by.of(ledger, row, entry, hour),
             ];
-            if five.iter().any(|&mw| mw < 0) {
-                return Err(format!("reference {reference}, hour {hour}: negative in {five:?}"));
-            }
-            if i64::from(granted[hour]) != held + five.iter().sum::<i64>() {
+            let granted = stored(ledger, row, GRANTED, hour);
+            if granted != held + five.iter().sum::<i64>() {
                 return Err(format!(
-                    "reference {reference}, hour {hour}: granted {}, available {}, displaced {}, the five {five:?}",
-                    granted[hour], available[hour], displaced[hour]
+                    "reference {reference}, hour {hour}: granted {granted}, available and \
+                     displaced {held}, the five {five:?}, reduced {by:?}"
                 ));
             }
         }
     }
+    Ok(())
+}
+
+/// Granted of each original at 13 or 15 is available + displaced + reduced of itself
+/// and of all that descends from it.
+fn trees_balance(ledger: &[u32], tally: &Tally, by: Reduced) -> Result<(), String> {
+    // The original above each reference, and its tree's sum hour by hour.
+    let mut original: BTreeMap<u32, u32> = BTreeMap::new();
+    let mut trees: BTreeMap<u32, Vec<i64>> = BTreeMap::new();
     for (&reference, entry) in &tally.entries {
-        if entry.reqtype > ORIGINAL_NON_FIRM || !counted(entry.status) {
+        let top = original.get(&entry.related).copied().unwrap_or(reference);
+        original.insert(reference, top);
+        let row = Row::of(ledger, reference);
+        let sums = trees.entry(top).or_insert_with(|| vec![0; tally.hours]);
+        for (hour, sum) in sums.iter_mut().enumerate() {
+            *sum += held(ledger, row, hour) + by.of(ledger, row, entry, hour);
+        }
+    }
+    for (reference, sums) in trees {
+        if !is_counted(&tally.entries[&reference]) {
             continue;
         }
-        for (hour, (&granted, &sum)) in
-            entry.granted.iter().zip(&tree[reference as usize]).enumerate()
-        {
-            if i64::from(granted) != sum {
+        let row = Row::of(ledger, reference);
+        for (hour, sum) in sums.into_iter().enumerate() {
+            let granted = stored(ledger, row, GRANTED, hour);
+            if granted != sum {
                 return Err(format!(
-                    "original {reference}, hour {hour}: granted {granted}, its tree holds {sum}"
+                    "original {reference}, hour {hour}: granted {granted}, its tree holds {sum}, \
+                     reduced {by:?}"
+                ));
+            }
+        }
+    }
+    Ok(())
+}
+
+/// What is stored as reduced is what the list reduced by, in every used row.
+fn reductions_are_kept(ledger: &[u32], tally: &Tally) -> Result<(), String> {
+    for (&reference, entry) in &tally.entries {
+        let row = Row::of(ledger, reference);
+        for (hour, &sum) in entry.reduced.iter().enumerate() {
+            let kept = stored(ledger, row, REDUCED_MW, hour);
+            if kept != sum {
+                return Err(format!(
+                    "reference {reference}, hour {hour}: reduced {sum} in the tally, {kept} in the ledger"
                 ));
             }
         }

@@ -263,6 +263,13 @@ fn creation_is_refused() {
         assert_eq!(create(&mut words, rows, hours, provider, window, base), BAD_LEDGER);
         assert!(words.iter().all(|&word| word == 7));
     }
+    // Rows of four or of six profiles.
+    for len in [8 + 2 * (16 + 4 * 3), 8 + 2 * (16 + 6 * 3)] {
+        let mut words = vec![7; len];
+        assert_eq!(create(&mut words, 2, 3, 1, 1, 0), BAD_LEDGER);
+        assert!(words.iter().all(|&word| word == 7));
+    }
+    assert_eq!(words.len(), 8 + 2 * (16 + 5 * 3));
     assert_eq!(create(&mut words, 2, 3, 65_535, 2_592_000, 876_597), 0);
     assert_eq!(words[..8], [2, 3, 65_535, 2_592_000, 876_597, 0, 0, 0]);
     assert!(words[8..].iter().all(|&word| word == 0));
@@ -488,6 +495,127 @@ fn reduction_is_refused() {
 }
 
 #[test]
+fn reductions_add_up_in_the_row() {
+    let mut desk = Desk::new(4, 4);
+    let one = desk.original(ORIGINAL_FIRM, 100);
+    // A resale of hours 1 to 3, so that its profile starts inside the row's.
+    let sale = desk.ok(submission(20, RESALE, 10, one, 1, 3, 1, 0), &[40, 60]).reference;
+    desk.ok(seller(10, sale, ACCEPTED, 0), &[]);
+    assert_eq!(desk.profile(sale, REDUCED_MW), [0; 4]);
+    assert_eq!(desk.ok(on(REDUCE, 1, sale), &[7, 0]).moved, 7);
+    assert_eq!(desk.profile(sale, REDUCED_MW), [0, 7, 0, 0]);
+    let answer = desk.ok(on(REDUCE, 1, sale), &[3, 60]);
+    assert_eq!((answer.before, answer.after, answer.moved), (CONFIRMED, CONFIRMED, 63));
+    assert_eq!(desk.profile(sale, REDUCED_MW), [0, 10, 60, 0]);
+    assert_eq!(desk.profile(sale, AVAILABLE), [0, 30, 0, 0]);
+    assert_eq!(desk.tally.entries()[&sale].reduced, [0, 10, 60, 0]);
+    // The row it came from has its own, and a refused reduction adds nothing.
+    assert_eq!(desk.profile(one, REDUCED_MW), [0; 4]);
+    assert_eq!(desk.number(on(REDUCE, 1, sale), &[1, 1]), SHORT);
+    desk.ok(on(REDUCE, 1, one), &[100, 0, 0, 1]);
+    assert_eq!(desk.profile(one, REDUCED_MW), [100, 0, 0, 1]);
+    assert_eq!(desk.profile(sale, REDUCED_MW), [0, 10, 60, 0]);
+    assert_eq!(charge(&desk.ledger, one), Ok(400 * 500 / 24));
+    assert_eq!(balanced(&desk.ledger, &desk.tally), Ok(()));
+}
+
+#[test]
+fn only_a_reduction_writes_reduced() {
+    let mut desk = Desk::new(8, 2);
+    let one = desk.original(ORIGINAL_FIRM, 100);
+    let sale = desk.derived(RESALE, one, 1, &[30, 20]);
+    let redirect = desk.derived(REDIRECT_NON_FIRM, one, 2, &[10, 10]);
+    desk.ok(on(REDUCE, 1, one), &[5, 6]);
+    desk.ok(on(REDUCE, 1, redirect), &[0, 1]);
+    let kept = |desk: &Desk| {
+        assert_eq!(desk.profile(one, REDUCED_MW), [5, 6]);
+        assert_eq!(desk.profile(redirect, REDUCED_MW), [0, 1]);
+        assert_eq!(balanced(&desk.ledger, &desk.tally), Ok(()));
+    };
+    // Confirmed from it, given back to its available, relinquished to it.
+    let part = desk.derived(RESALE, one, 1, &[1, 1]);
+    kept(&desk);
+    desk.ok(seller(10, part, ANNULLED, 0), &[]);
+    kept(&desk);
+    desk.derived(RELINQUISH, redirect, 2, &[4, 0]);
+    kept(&desk);
+    // A reduced row is in use, as far as its available differs from granted.
+    assert_eq!(desk.number(seller(1, redirect, ANNULLED, 0), &[]), IN_USE);
+    // Displaced, and given back to displaced.
+    assert_eq!(desk.ok(seller(1, one, DISPLACED, 0), &[]).moved, 59 + 64);
+    assert_eq!(desk.profile(one, DISPLACED_MW), [59, 64]);
+    kept(&desk);
+    desk.ok(seller(10, sale, ANNULLED, 0), &[]);
+    assert_eq!(desk.profile(one, DISPLACED_MW), [59 + 30, 64 + 20]);
+    kept(&desk);
+    // 15 compares available and granted alone, whatever words a foreign row has.
+    let two = desk.original(ORIGINAL_FIRM, 100);
+    let reduced = Row::of(&desk.ledger, two).profile(REDUCED_MW);
+    desk.ledger[reduced].copy_from_slice(&[100_000, 7]);
+    assert_eq!(desk.ok(seller(1, two, ANNULLED, 0), &[]).moved, 200);
+    assert_eq!(desk.profile(two, REDUCED_MW), [100_000, 7]);
+}
+
+#[test]
+fn reduced_words_over_the_bound_are_refused_last() {
+    let mut desk = Desk::new(1, 3);
+    let one = desk.original(ORIGINAL_FIRM, 100);
+    let reduce = on(REDUCE, 1, one);
+    // Words that no list of actions leaves behind.
+    let reduced = Row::of(&desk.ledger, one).profile(REDUCED_MW);
+    desk.ledger[reduced].copy_from_slice(&[100_000, 99_990, 0]);
+    assert!(sound(&desk.ledger));
+    let stands = desk.ledger.clone();
+    assert_eq!(desk.number(reduce, &[1, 0, 0]), BAD_LEDGER);
+    assert_eq!(desk.number(reduce, &[0, 11, 0]), BAD_LEDGER);
+    assert_eq!(desk.number(reduce, &[0, 11, 100]), BAD_LEDGER);
+    // Available short in the same hour or another comes first.
+    assert_eq!(desk.number(reduce, &[101, 0, 0]), SHORT);
+    assert_eq!(desk.number(reduce, &[1, 0, 101]), SHORT);
+    assert_eq!(desk.ledger, stands);
+    // 0 more where 100,000 stand is accepted, and so is what reaches them.
+    assert_eq!(desk.ok(reduce, &[0, 10, 100]).moved, 110);
+    assert_eq!(desk.profile(one, REDUCED_MW), [100_000, 100_000, 100]);
+    assert_eq!(desk.profile(one, AVAILABLE), [100, 90, 0]);
+    // Displacing leaves the words as they are.
+    assert_eq!(desk.ok(seller(1, one, DISPLACED, 0), &[]).moved, 190);
+    assert_eq!(desk.profile(one, REDUCED_MW), [100_000, 100_000, 100]);
+}
+
+#[test]
+fn a_list_can_reduce_to_the_bound() {
+    let mut desk = Desk::new(1, 2);
+    let one = desk.original(ORIGINAL_FIRM, 100_000);
+    desk.ok(on(REDUCE, 1, one), &[99_999, 1]);
+    desk.ok(on(REDUCE, 1, one), &[1, 0]);
+    assert_eq!(desk.number(on(REDUCE, 1, one), &[1, 0]), SHORT);
+    desk.ok(on(REDUCE, 1, one), &[0, 99_999]);
+    assert_eq!(desk.profile(one, REDUCED_MW), [100_000; 2]);
+    assert_eq!(balanced(&desk.ledger, &desk.tally), Ok(()));
+}
+
+#[test]
+fn every_profile_is_looked_at() {
+    let mut desk = Desk::new(2, 4);
+    let one = desk.ok(submission(10, ORIGINAL_FIRM, 1, 0, 1, 3, 1, 0), &[5, 5]).reference;
+    let row = Row::of(&desk.ledger, one);
+    for profile in 0..PROFILES {
+        for (hour, word) in [(0, 1), (3, 1), (1, 100_001), (2, u32::MAX)] {
+            let mut ledger = desk.ledger.clone();
+            ledger[row.profile(profile).start + hour] = word;
+            assert!(!sound(&ledger), "profile {profile}, hour {hour}");
+        }
+        let mut ledger = desk.ledger.clone();
+        ledger[row.span(&desk.ledger, profile)].fill(100_000);
+        assert!(sound(&ledger), "profile {profile}");
+    }
+    // The row has as many words as it has fields and profiles, and the next one is unused.
+    assert_eq!(row.profile(PROFILES - 1).end, ledger_words(1, 4));
+    desk.ledger[ledger_words(1, 4)] = 1;
+    assert!(!sound(&desk.ledger));
+}
+
+#[test]
 fn lapse_is_refused() {
     let mut desk = Desk::new(8, 1);
     let one = desk.original(ORIGINAL_FIRM, 100);
@@ -562,11 +690,56 @@ fn a_broken_balance_is_seen() {
     for at in [row.at + STATUS, row.at + TYPE, row.at + RELATED] {
         assert!(spoil(at).is_err());
     }
-    for profile in [GRANTED, AVAILABLE, DISPLACED_MW] {
-        assert!(spoil(row.profile(profile).start).is_err());
+    for profile in 0..PROFILES {
+        let seen = spoil(row.profile(profile).start).is_err();
+        assert_eq!(seen, profile != REQUESTED, "profile {profile}");
     }
     assert!(spoil(USED).is_err());
-    assert!(spoil(row.profile(REQUESTED).start).is_ok());
+}
+
+#[test]
+fn stored_and_tallied_reductions_are_held_together() {
+    let mut desk = Desk::new(8, 1);
+    let one = desk.original(ORIGINAL_FIRM, 100);
+    let sale = desk.derived(RESALE, one, 1, &[10]);
+    let gone = desk.derived(RESALE, one, 1, &[10]);
+    desk.ok(seller(10, gone, ANNULLED, 0), &[]);
+    let other = desk.original(ORIGINAL_FIRM, 50);
+    desk.ok(seller(1, other, ANNULLED, 0), &[]);
+    desk.ok(on(REDUCE, 1, sale), &[4]);
+    assert_eq!(balanced(&desk.ledger, &desk.tally), Ok(()));
+    let told = |reference: u32, mw: u32| {
+        let mut ledger = desk.ledger.clone();
+        let at = Row::of(&ledger, reference).profile(REDUCED_MW).start;
+        ledger[at] = mw;
+        balanced(&ledger, &desk.tally).unwrap_err()
+    };
+    // In a row that holds megawatts, in one that descends from it, in one by itself.
+    let by_row = told(sale, 3);
+    assert!(by_row.starts_with("reference 2, hour 0: granted 10") && by_row.ends_with("Stored"));
+    assert!(told(gone, 1).starts_with("original 1, hour 0: granted 100, its tree holds 101"));
+    assert!(told(other, 1).starts_with("reference 4, hour 0: reduced 0 in the tally, 1"));
+    // A reduction that the ledger was never told of.
+    let mut tally = desk.tally.clone();
+    let answer = Answer { number: 0, reference: sale, before: 13, after: 13, moved: 1 };
+    tally.feed(&[1], &Action { length: 1, ..on(REDUCE, 1, sale) }, &answer);
+    let told = balanced(&desk.ledger, &tally).unwrap_err();
+    assert!(told.starts_with("reference 2, hour 0: granted 10") && told.ends_with("Tallied"));
+}
+
+#[test]
+fn a_negative_sum_of_any_entry_is_seen() {
+    let mut desk = Desk::new(8, 1);
+    let one = desk.original(ORIGINAL_FIRM, 100);
+    let sale = desk.derived(RESALE, one, 1, &[10]);
+    desk.ok(seller(10, sale, ANNULLED, 0), &[]);
+    desk.ok(seller(1, one, ANNULLED, 0), &[]);
+    assert_eq!(balanced(&desk.ledger, &desk.tally), Ok(()));
+    // The annulment fed once more leaves the annulled original with less than nothing resold.
+    let again = Answer { number: 0, reference: sale, before: 13, after: 16, moved: 10 };
+    desk.tally.feed(&[], &seller(10, sale, ANNULLED, 0), &again);
+    let told = balanced(&desk.ledger, &desk.tally).unwrap_err();
+    assert_eq!(told, "reference 1, hour 0: resold -10");
 }
 
 #[test]

@@ -90,6 +90,7 @@ fn main() -> Result<ExitCode, Refusal> {
     let one = ledger.row(1).ok_or(Refusal::NO_SUCH_REFERENCE)?;
     let three = ledger.row(3).ok_or(Refusal::NO_SUCH_REFERENCE)?;
     agrees &= one.displaced == [100, 100, 60, 70] && three.available[2..] == [40, 30];
+    agrees &= (1..=5).all(|row| ledger.row(row).is_some_and(|row| row.reduced == [0; 4]));
     agrees &= (1..=2).all(|path| postings.path(path) == Some(&[100; 4]));
 
     // The same handed over together.

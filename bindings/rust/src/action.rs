@@ -133,7 +133,8 @@ impl Action {
         Action { reference, ..Action::of(Kind::APPROVE, provider) }
     }
 
-    /// Kind 5: the provider reduces a confirmed row by a profile for its span.
+    /// Kind 5: the provider reduces a confirmed row by a profile for its span, which
+    /// goes from its available to its reduced.
     pub fn reduce(provider: u32, reference: u32, profile: ProfileAt) -> Action {
         Action { reference, ..Action::of(Kind::REDUCE, provider) }.profile(profile)
     }

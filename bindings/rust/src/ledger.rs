@@ -6,6 +6,7 @@ use crate::{Action, Answer};
 
 const HEAD_WORDS: usize = 8;
 const FIELD_WORDS: usize = 16;
+const PROFILES: usize = 5;
 const PATHS: usize = 64;
 
 /// A ledger and its words.
@@ -14,7 +15,7 @@ const PATHS: usize = 64;
 /// use luddrisa::{Ledger, Refusal};
 ///
 /// let ledger = Ledger::create(8, 4, 1, 3_600, 0).unwrap();
-/// assert_eq!(ledger.words().len(), 8 + 8 * (16 + 4 * 4));
+/// assert_eq!(ledger.words().len(), 8 + 8 * (16 + 5 * 4));
 /// assert!(ledger.is_sound());
 /// assert_eq!(ledger.charge(1), Err(Refusal::NO_SUCH_REFERENCE));
 /// assert_eq!(Ledger::create(0, 4, 1, 3_600, 0), Err(Refusal::UNSOUND));
@@ -145,6 +146,8 @@ pub struct Row<'a> {
     pub available: &'a [u32],
     /// Megawatts taken by displacement or returned to a row no longer confirmed.
     pub displaced: &'a [u32],
+    /// Megawatts cut by the provider's reductions, all of them added up.
+    pub reduced: &'a [u32],
 }
 
 impl Ledger {
@@ -161,8 +164,11 @@ impl Ledger {
     ) -> Result<Ledger, Refusal> {
         // Numbers out of range are refused whatever the length, so none is made for them.
         let fits = (1..=1_024).contains(&rows) && (1..=744).contains(&hours);
-        let len =
-            if fits { HEAD_WORDS + rows as usize * (FIELD_WORDS + 4 * hours as usize) } else { 0 };
+        let len = if fits {
+            HEAD_WORDS + rows as usize * (FIELD_WORDS + PROFILES * hours as usize)
+        } else {
+            0
+        };
         let mut words = vec![0; len];
         Refusal::check(calls::create(&mut words, rows, hours, provider, window, base))?;
         Ok(Ledger { words })
@@ -258,13 +264,12 @@ impl Ledger {
             return None;
         }
         let hours = head.hours as usize;
-        let size = hours.checked_mul(4)?.checked_add(FIELD_WORDS)?;
+        let size = hours.checked_mul(PROFILES)?.checked_add(FIELD_WORDS)?;
         let at = size.checked_mul(reference as usize - 1)?.checked_add(HEAD_WORDS)?;
         let row = self.words.get(at..at.checked_add(size)?)?;
         let (fields, profiles) = row.split_at(FIELD_WORDS);
-        let (requested, rest) = profiles.split_at(hours);
-        let (granted, rest) = rest.split_at(hours);
-        let (available, displaced) = rest.split_at(hours);
+        let [requested, granted, available, displaced, reduced]: [&[u32]; PROFILES] =
+            std::array::from_fn(|place| &profiles[place * hours..][..hours]);
         Some(Row {
             reqtype: RequestType(fields[0]),
             status: Status(fields[1]),
@@ -282,6 +287,7 @@ impl Ledger {
             granted,
             available,
             displaced,
+            reduced,
         })
     }
 }

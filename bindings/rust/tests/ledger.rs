@@ -42,6 +42,7 @@ fn rows_are_shown_by_name() {
     assert_eq!(row.flags.to_string(), "preconfirmed, granted given, offer given");
     assert_eq!((row.requested, row.granted), (&[100; 4][..], &[100; 4][..]));
     assert_eq!((row.available, row.displaced), (&[100; 4][..], &[0; 4][..]));
+    assert_eq!(row.reduced, [0; 4]);
     assert_eq!((ledger.row(0), ledger.row(2)), (None, None));
     assert_eq!(ledger.profile_in_force(1), [100; 4]);
     assert!(ledger.profile_in_force(2).is_empty());
@@ -117,6 +118,64 @@ fn a_path_is_used_up_to_its_posting() {
     assert_eq!(postings.path(3), Some(&[100, 101, 100, 100][..]));
     let accept = Action::seller_status(1, 2, Status::ACCEPTED);
     assert_eq!(ledger.act(&mut postings, &[], &accept).moved, 1);
+}
+
+#[test]
+fn what_was_cut_is_kept_in_the_row() {
+    let (mut ledger, mut postings) = with_an_original();
+    let mut profiles = Profiles::new();
+    let outage = Action::reduce(1, 1, profiles.add(&[0, 30, 40, 0]));
+    let later = Action::reduce(1, 1, profiles.add(&[5, 0, 60, 0]));
+    let answers = ledger.answers(&mut postings, profiles.words(), &[outage, later, outage]);
+    let lines: Vec<_> = answers.iter().map(Answer::to_string).collect();
+    assert_eq!(lines, ["0 1 13 13 70", "0 1 13 13 65", "14 0 0 0 0"]);
+    let row = ledger.row(1).unwrap();
+    assert_eq!((row.available, row.reduced), (&[95, 70, 0, 100][..], &[5, 30, 100, 0][..]));
+    assert_eq!(row.displaced, [0; 4]);
+    // The charge goes by what was granted.
+    assert_eq!(ledger.charge(1), Ok(8_333));
+    let displace = Action::seller_status(1, 1, Status::DISPLACED);
+    assert_eq!(ledger.act(&mut postings, &[], &displace).to_string(), "0 1 13 15 265");
+    let row = ledger.row(1).unwrap();
+    assert_eq!((row.displaced, row.reduced), (&[95, 70, 0, 100][..], &[5, 30, 100, 0][..]));
+}
+
+#[test]
+fn no_more_than_100_000_are_kept() {
+    let (ledger, mut postings) = with_an_original();
+    // The reduced words are the last of the row: here one of them stands at the bound.
+    let mut words = ledger.into_words();
+    let row_end = 8 + 16 + 5 * 4;
+    words[row_end - 2] = 100_000;
+    let mut ledger = Ledger::from_words(words.clone());
+    assert!(ledger.is_sound());
+    assert_eq!(ledger.row(1).unwrap().reduced, [0, 0, 100_000, 0]);
+    let cut = Action::reduce(1, 1, ProfileAt { offset: 0, length: 4 });
+    let answer = ledger.act(&mut postings, &[1, 0, 1, 0], &cut);
+    assert_eq!(answer.refusal(), Some(Refusal::UNSOUND));
+    assert_eq!(ledger.words(), words);
+    assert!(ledger.act(&mut postings, &[1, 0, 0, 0], &cut).is_accepted());
+    assert_eq!(ledger.row(1).unwrap().reduced, [1, 0, 100_000, 0]);
+    // Over the bound it is no ledger.
+    words[row_end - 2] = 100_001;
+    assert!(!Ledger::from_words(words).is_sound());
+}
+
+#[test]
+fn rows_of_four_profiles_are_no_ledger() {
+    let (ledger, mut postings) = with_an_original();
+    let words = ledger.words();
+    // Two rows of 16 fields, and of 4 profiles over 4 hours instead of 5.
+    let old: Vec<u32> = words[..8]
+        .iter()
+        .chain(words[8..].chunks(36).flat_map(|row| &row[..32]))
+        .copied()
+        .collect();
+    assert_eq!((words.len(), old.len()), (8 + 2 * 36, 8 + 2 * 32));
+    let mut old = Ledger::from_words(old);
+    assert!(!old.is_sound());
+    let answer = old.act(&mut postings, &[], &Action::clock(1, 1));
+    assert_eq!(answer.refusal(), Some(Refusal::UNSOUND));
 }
 
 #[test]

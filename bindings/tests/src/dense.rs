@@ -212,6 +212,7 @@ fn fill_row(rng: &mut Rng, ledger: &mut [u32], reference: u32, wish: u32, rows: 
     let agrees = ready || rng.chance(65);
     let untouched = rng.chance(60);
     let never_displaced = rng.chance(60);
+    let never_reduced = rng.chance(50);
     let word_of = if rng.chance(rows.heavy) { word } else { light_word };
     for hour in span {
         let mut requested = word_of(rng);
@@ -222,7 +223,9 @@ fn fill_row(rng: &mut Rng, ledger: &mut [u32], reference: u32, wish: u32, rows: 
         let granted = if agrees { requested } else { word_of(rng).min(requested) };
         let available = if untouched { granted } else { word_of(rng) };
         let displaced = if never_displaced { 0 } else { word(rng) };
-        for (profile, mw) in [requested, granted, available, displaced].into_iter().enumerate() {
+        let reduced = if never_reduced { 0 } else { word(rng) };
+        let profiles: [u32; PROFILES] = [requested, granted, available, displaced, reduced];
+        for (profile, mw) in profiles.into_iter().enumerate() {
             ledger[row.profile(profile).start + hour] = mw;
         }
     }
@@ -230,7 +233,7 @@ fn fill_row(rng: &mut Rng, ledger: &mut [u32], reference: u32, wish: u32, rows: 
 
 /// An action that may well be accepted on a ledger of any kind.
 pub fn any_action(rng: &mut Rng, ledger: &[u32], words: &mut Words) -> Action {
-    let kind = rng.pick(&[1, 2, 2, 2, 2, 3, 3, 3, 4, 5, 6, 6, 7, 8]);
+    let kind = rng.pick(&[1, 2, 2, 2, 2, 3, 3, 3, 4, 5, 5, 6, 6, 7, 8]);
     let used = ledger[USED];
     let provider = ledger[PROVIDER];
     let mut action = if kind == CLOCK {
@@ -246,6 +249,10 @@ pub fn any_action(rng: &mut Rng, ledger: &[u32], words: &mut Words) -> Action {
     };
     if rng.chance(10) {
         action.actor = rng.pick(&[provider, 10, 11, 12, 0, 65_535]);
+    }
+    if kind == SUBMIT && rng.chance(8) {
+        // Any row, CONFIRMED or not, or none.
+        action.related = rng.below(used + 2);
     }
     if rng.chance(8) {
         action = disturb(rng, action);
@@ -299,10 +306,25 @@ fn on_row(rng: &mut Rng, ledger: &[u32], words: &mut Words, kind: u32) -> Action
             _ => word(rng),
         };
     }
+    if kind == REDUCE && rng.chance(50) {
+        to_the_room(rng, &part(REDUCED_MW), &mut profile);
+    }
     if rng.chance(3) {
         profile.push(1);
     }
     with_profile(words, action, &profile)
+}
+
+/// A reduction by no more than there is room for in the reduced words, or by one
+/// more in an hour.
+fn to_the_room(rng: &mut Rng, reduced: &[u32], profile: &mut [u32]) {
+    for (mw, reduced) in profile.iter_mut().zip(reduced) {
+        *mw = (*mw).min(MAX_MW - reduced);
+    }
+    if rng.chance(30) {
+        let hour = rng.below(profile.len() as u32) as usize;
+        profile[hour] += 1;
+    }
 }
 
 /// So many ledgers, a few actions on each.

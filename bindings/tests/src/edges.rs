@@ -1,6 +1,6 @@
 //! Edges: each head, row and posting word at its bound and one over, damaged
-//! ledgers and postings of any length, wild numbers in every field, creation at
-//! its bounds.
+//! ledgers and postings of any length, rows with a profile too few or too many,
+//! wild numbers in every field, creation at its bounds, reductions to the bound.
 
 use luddrisa_model::*;
 
@@ -153,9 +153,32 @@ impl Ground {
     }
 }
 
+/// The words of a row with so many profiles.
+fn row_words(hours: u32, profiles: usize) -> usize {
+    FIELD_WORDS + profiles * hours as usize
+}
+
+/// The length of a ledger whose rows had so many profiles.
+pub fn length_with(profiles: usize, rows: u32, hours: u32) -> usize {
+    HEAD_WORDS + rows as usize * row_words(hours, profiles)
+}
+
+/// The rows with another number of profiles each: the first ones kept, further
+/// ones 0.
+pub fn laid_out(ledger: &[u32], profiles: usize, anew: usize) -> Vec<u32> {
+    let (head, rows) = ledger.split_at(HEAD_WORDS);
+    let mut words = head.to_vec();
+    for row in rows.chunks(row_words(head[HOURS], profiles)) {
+        let mut row = row.to_vec();
+        row.resize(row_words(head[HOURS], anew), 0);
+        words.extend(row);
+    }
+    words
+}
+
 fn spoil_words(run: &mut Run, ground: &Ground, action: &Action) -> Result<(), Difference> {
     let ledger = &ground.ledger;
-    let row_words = FIELD_WORDS + PROFILES * ledger[HOURS] as usize;
+    let row_words = row_words(ledger[HOURS], PROFILES);
     let mut spoilt = ledger.to_vec();
     for at in 0..ledger.len() {
         let bound = match at.checked_sub(HEAD_WORDS) {
@@ -296,16 +319,24 @@ fn damage(
     action: &Action,
 ) -> Result<(), Difference> {
     let ledger = &ground.ledger;
+    let len = ledger.len();
+    let row_words = row_words(ledger[HOURS], PROFILES);
     let mut grown = ledger.to_vec();
-    grown.extend([0; 24]);
-    let lengths =
-        (0..=12).chain([ledger.len() - 1, ledger.len() + 1, ledger.len() + 16, ledger.len() + 20]);
-    for length in lengths.filter(|&length| length <= grown.len()) {
+    grown.extend(vec![0; row_words]);
+    // A row more or less among them.
+    let others = [len - row_words, len - 1, len + 1, len + FIELD_WORDS, len + row_words];
+    for length in (0..=12).chain(others) {
         ground.act_on(run, &grown[..length], action)?;
         run.read_out(&Twice::new(&grown[..length]), 1)?;
         let noise: Vec<u32> = (0..length).map(|_| rng.pick(&[0, 1, 2, 3, u32::MAX])).collect();
         ground.act_on(run, &noise, action)?;
         run.read_out(&Twice::new(&noise), 1)?;
+    }
+    for profiles in [PROFILES - 1, PROFILES + 1] {
+        let other = laid_out(ledger, PROFILES, profiles);
+        ground.act_on(run, &other, action)?;
+        ground.act_on(run, &other, &NO_KIND)?;
+        run.read_out(&Twice::new(&other), 1)?;
     }
     // The head of the greatest ledger, and one whose length wraps 32 bits, over few words.
     for (rows, hours) in [(MAX_ROWS, MAX_HOURS), (1 << 28, 0), (1 << 30, u32::MAX), (0, 0)] {
@@ -319,14 +350,19 @@ fn damage(
 pub fn creations(run: &mut Run) -> Result<(), Difference> {
     let good = [2, 3, 1, 3_600, 0];
     let bounds = [MAX_ROWS, MAX_HOURS, MAX_ENTITY, MAX_WINDOW, END_HOUR];
-    let full =
-        |rows: u32, hours: u32| ledger_words(rows.min(MAX_ROWS + 1), hours.min(MAX_HOURS + 1));
+    let with = |profiles: usize, rows: u32, hours: u32| {
+        length_with(profiles, rows.min(MAX_ROWS + 1), hours.min(MAX_HOURS + 1))
+    };
+    let full = |rows: u32, hours: u32| with(PROFILES, rows, hours);
     for at in 0..5 {
         for value in values(good[at], bounds[at]) {
             let mut numbers = good;
             numbers[at] = value;
-            let len = full(numbers[0], numbers[1]);
-            for len in [len, len + 1, len.saturating_sub(1), 0, 7, 8] {
+            let [rows, hours, ..] = numbers;
+            let len = full(rows, hours);
+            let fewer = with(PROFILES - 1, rows, hours);
+            let more = with(PROFILES + 1, rows, hours);
+            for len in [len, len + 1, len.saturating_sub(1), fewer, more, 0, 7, 8] {
                 run.create(&vec![9; len], numbers)?;
             }
         }
@@ -356,6 +392,86 @@ pub fn sizes(run: &mut Run) -> Result<(), Difference> {
         assert_eq!(run.act(&mut desk, &[], &clock)?.number, if fits { 0 } else { BAD_LEDGER });
         run.read_out(&desk.ledger, 1)?;
     }
+    Ok(())
+}
+
+/// Reductions of a CONFIRMED row of two hours, with each of several numbers for
+/// available, reduced and the profile in each hour. What must come is worked out
+/// here once more.
+pub fn reductions(run: &mut Run) -> Result<(), Difference> {
+    let two = |of: &[u32]| -> Vec<[u32; 2]> {
+        of.iter().flat_map(|&one| of.iter().map(move |&other| [one, other])).collect()
+    };
+    let profiles = two(&[0, 1, 40, MAX_MW]);
+    for available in two(&[0, 1, 40, MAX_MW]) {
+        for reduced in two(&[0, MAX_MW - 40, MAX_MW - 1, MAX_MW]) {
+            let ledger = one_row(available, reduced);
+            for profile in &profiles {
+                reduction(run, &ledger, available, reduced, *profile).map_err(|difference| {
+                    format!("reductions of {available:?}, reduced {reduced:?}: {difference}")
+                })?;
+            }
+        }
+    }
+    Ok(())
+}
+
+/// A ledger of three hours with a CONFIRMED original in the last two.
+pub fn one_row(available: [u32; 2], reduced: [u32; 2]) -> Vec<u32> {
+    let mut ledger = vec![0; ledger_words(1, 3)];
+    assert_eq!(create(&mut ledger, 1, 3, 1, 1, 0), 0);
+    ledger[USED] = 1;
+    let row = Row::of(&ledger, 1);
+    for (field, word) in [
+        (TYPE, ORIGINAL_FIRM),
+        (STATUS, CONFIRMED),
+        (CUSTOMER, 10),
+        (SELLER, 1),
+        (START, 1),
+        (STOP, 3),
+        (PATH, 1),
+    ] {
+        row.set(&mut ledger, field, word);
+    }
+    for (profile, words) in [(AVAILABLE, available), (REDUCED_MW, reduced)] {
+        let span = row.span(&ledger, profile);
+        ledger[span].copy_from_slice(&words);
+    }
+    ledger
+}
+
+fn reduction(
+    run: &mut Run,
+    ledger: &[u32],
+    available: [u32; 2],
+    reduced: [u32; 2],
+    profile: [u32; 2],
+) -> Result<(), Difference> {
+    let either = |test: fn(u32, u32) -> bool, has: [u32; 2]| {
+        test(has[0], profile[0]) || test(has[1], profile[1])
+    };
+    let number = if profile == [0, 0] {
+        BAD_PROFILE
+    } else if either(|has, mw| has < mw, available) {
+        SHORT
+    } else if either(|has, mw| mw > MAX_MW - has, reduced) {
+        BAD_LEDGER
+    } else {
+        0
+    };
+    let mut desk = Desk::new(ledger, &vec![0; posting_words(3)]);
+    let action = Action { kind: REDUCE, actor: 1, reference: 1, length: 2, ..NO_KIND };
+    let answer = run.act(&mut desk, &profile, &action)?;
+    assert_eq!(answer.number, number, "{profile:?} of {available:?} and {reduced:?}");
+    let mut left = one_row(available, reduced);
+    if number == 0 {
+        let less = [available[0] - profile[0], available[1] - profile[1]];
+        let more = [reduced[0] + profile[0], reduced[1] + profile[1]];
+        left = one_row(less, more);
+        let moved = profile[0] + profile[1];
+        assert_eq!(answer, Answer { number, reference: 1, before: 13, after: 13, moved });
+    }
+    assert_eq!(desk.ledger(), left, "{profile:?} of {available:?} and {reduced:?}");
     Ok(())
 }
 

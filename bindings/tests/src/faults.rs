@@ -3,6 +3,7 @@
 
 use luddrisa_model::*;
 
+use crate::edges::{laid_out, length_with};
 use crate::rules::{Model, Rules};
 
 /// One action as it was handed over.
@@ -192,6 +193,25 @@ fn used_rows(ledger: &[u32]) -> Vec<Row> {
     (1..=used.min(rows)).map(|reference| Row::of(ledger, reference)).collect()
 }
 
+/// Words of a profile outside the spans of the rows, put to 0.
+fn clear_outside(ledger: &mut [u32], profile: usize) {
+    for row in used_rows(ledger) {
+        let (start, stop) = (row.get(ledger, START) as usize, row.get(ledger, STOP) as usize);
+        for (hour, mw) in ledger[row.profile(profile)].iter_mut().enumerate() {
+            if !(start..stop).contains(&hour) {
+                *mw = 0;
+            }
+        }
+    }
+}
+
+/// Words of a profile brought down to 100,000.
+fn bring_down(ledger: &mut [u32], profile: usize) {
+    for row in used_rows(ledger) {
+        ledger[row.profile(profile)].iter_mut().for_each(|mw| *mw = (*mw).min(MAX_MW));
+    }
+}
+
 fn at_most(ledger: &mut [u32], field: usize, most: u32) {
     for row in used_rows(ledger) {
         let word = row.get(ledger, field).min(most);
@@ -368,7 +388,7 @@ fn posted_hours(case: &Case) -> std::ops::Range<usize> {
     first + case.action.start as usize..first + case.action.stop as usize
 }
 
-/// A posting's profile.
+/// An action's profile, where it fits.
 fn profile_of<'a>(case: &Case<'a>) -> &'a [u32] {
     let first = case.action.offset as usize;
     &case.words[first..first + case.action.length as usize]
@@ -376,6 +396,46 @@ fn profile_of<'a>(case: &Case<'a>) -> &'a [u32] {
 
 fn posts(case: &Case, answer: &Answer) -> bool {
     case.action.kind == POST && answer.number == 0
+}
+
+// Reductions.
+
+fn reduces(case: &Case, answer: &Answer) -> bool {
+    case.action.kind == REDUCE && answer.number == 0
+}
+
+/// The 1 for a reduced word over 100,000.
+fn over_reduced(case: &Case, answer: &Answer) -> bool {
+    case.action.kind == REDUCE && answer.number == BAD_LEDGER && was_sound(case)
+}
+
+/// The reduced words of a reduction's row before it, each with what comes to it.
+fn to_be_reduced(case: &Case) -> Vec<(u32, u32)> {
+    let row = Row::of(case.before, case.action.reference);
+    let reduced = &case.before[row.span(case.before, REDUCED_MW)];
+    reduced.iter().copied().zip(profile_of(case).iter().copied()).collect()
+}
+
+/// Carries a reduction out, with a way of its own to work out what reduced is left at.
+fn reduce_by(case: &Case, ledger: &mut [u32], left: fn(u32, u32) -> u32) {
+    let row = Row::of(case.before, case.action.reference);
+    let words = row.span(case.before, AVAILABLE).zip(row.span(case.before, REDUCED_MW));
+    for ((available, reduced), (has, mw)) in words.zip(to_be_reduced(case)) {
+        ledger[available] = case.before[available] - mw;
+        ledger[reduced] = left(has, mw);
+    }
+}
+
+/// The answer to a reduction that is carried out.
+fn reduced_by(case: &Case) -> Answer {
+    let moved = profile_of(case).iter().sum();
+    let reference = case.action.reference;
+    Answer { number: 0, reference, before: CONFIRMED, after: CONFIRMED, moved }
+}
+
+/// True for a length that fits rows of four profiles.
+fn fits_four(len: usize, rows: u32, hours: u32) -> bool {
+    rows <= MAX_ROWS && hours <= MAX_HOURS && len == length_with(PROFILES - 1, rows, hours)
 }
 
 fn unfit_rows(ledger: &[u32]) -> bool {
@@ -418,7 +478,8 @@ const fn calling(name: &'static str, fault: Fault) -> Faulty {
 /// model everywhere.
 pub const JUDGED_APART: Faulty = acting("judges the limits apart", |case, ledger, answer| {
     let displaces = case.action.kind == SELLER_STATUS && case.action.status == DISPLACED;
-    let last_one = answer.number == BAD_LEDGER && was_sound(case) && !displaces;
+    let unasked = displaces || case.action.kind == REDUCE;
+    let last_one = answer.number == BAD_LEDGER && was_sound(case) && !unasked;
     if !asked(case, answer) && !last_one {
         return;
     }
@@ -595,6 +656,135 @@ pub const FAULTS: &[Faulty] = &[
             answer.moved = ledger[row.profile(GRANTED)].iter().sum();
         }
     }),
+    // Reductions kept in the row.
+    unbalancing("replaces what was reduced before", |case, ledger, answer| {
+        if reduces(case, answer) {
+            reduce_by(case, ledger, |_, mw| mw);
+        }
+    }),
+    unbalancing("does not keep a reduction", |case, ledger, answer| {
+        if reduces(case, answer) {
+            reduce_by(case, ledger, |has, _| has);
+        }
+    }),
+    unbalancing("keeps a reduction in the related row", |case, ledger, answer| {
+        let Some(row) = row_of(ledger, answer) else { return };
+        let Some(above) = related(ledger, row) else { return };
+        if reduces(case, answer) {
+            for (own, others) in row.profile(REDUCED_MW).zip(above.profile(REDUCED_MW)) {
+                let mw = ledger[own] - case.before[own];
+                ledger[own] = case.before[own];
+                ledger[others] = (ledger[others] + mw).min(MAX_MW);
+            }
+        }
+    }),
+    acting("keeps a reduction from the first hour on", |case, ledger, answer| {
+        let Some(row) = row_of(ledger, answer) else { return };
+        if reduces(case, answer) {
+            let reduced = row.profile(REDUCED_MW);
+            ledger[reduced.clone()].copy_from_slice(&case.before[reduced.clone()]);
+            for (at, mw) in reduced.zip(profile_of(case)) {
+                ledger[at] += mw;
+            }
+        }
+    }),
+    acting("answers with all that was reduced", |case, ledger, answer| {
+        let Some(row) = row_of(ledger, answer) else { return };
+        if reduces(case, answer) {
+            answer.moved = ledger[row.profile(REDUCED_MW)].iter().sum();
+        }
+    }),
+    unbalancing("adds what is displaced to reduced too", |case, ledger, answer| {
+        let Some(row) = row_of(ledger, answer) else { return };
+        if answer.after == DISPLACED {
+            for (reduced, available) in row.profile(REDUCED_MW).zip(row.profile(AVAILABLE)) {
+                ledger[reduced] = (ledger[reduced] + case.before[available]).min(MAX_MW);
+            }
+        }
+    }),
+    unbalancing("clears reduced when a row is displaced", |_, ledger, answer| {
+        let Some(row) = row_of(ledger, answer) else { return };
+        if answer.after == DISPLACED {
+            ledger[row.profile(REDUCED_MW)].fill(0);
+        }
+    }),
+    acting("clears reduced when a row is annulled", |_, ledger, answer| {
+        let Some(row) = row_of(ledger, answer) else { return };
+        if answer.after == ANNULLED && answer.before == CONFIRMED {
+            ledger[row.profile(REDUCED_MW)].fill(0);
+        }
+    }),
+    acting("clears reduced when a row is confirmed", |_, ledger, answer| {
+        let Some(row) = row_of(ledger, answer) else { return };
+        if confirms(answer) {
+            ledger[row.profile(REDUCED_MW)].fill(0);
+        }
+    }),
+    unbalancing("takes what is given back off reduced", |_, ledger, answer| {
+        let Some(row) = row_of(ledger, answer) else { return };
+        let Some(above) = related(ledger, row) else { return };
+        if (answer.before, answer.after) == (CONFIRMED, ANNULLED) {
+            for (reduced, granted) in above.profile(REDUCED_MW).zip(row.profile(GRANTED)) {
+                ledger[reduced] = ledger[reduced].saturating_sub(ledger[granted]);
+            }
+        }
+    }),
+    acting("forgets reduced in the last 1", |case, ledger, answer| {
+        if over_reduced(case, answer) {
+            reduce_by(case, ledger, |has, mw| has + mw);
+            *answer = reduced_by(case);
+        }
+    }),
+    acting("stops reduced at 100,000", |case, ledger, answer| {
+        if over_reduced(case, answer) {
+            reduce_by(case, ledger, |has, mw| (has + mw).min(MAX_MW));
+            *answer = reduced_by(case);
+        }
+    }),
+    acting("lowers available where a reduced word would pass", |case, ledger, answer| {
+        if over_reduced(case, answer) {
+            reduce_by(case, ledger, |has, _| has);
+        }
+    }),
+    acting("judges a reduced word over 100,000 before available", |case, _, answer| {
+        let short = case.action.kind == REDUCE && answer.number == SHORT;
+        if short && to_be_reduced(case).iter().any(|(has, mw)| has + mw > MAX_MW) {
+            answer.number = BAD_LEDGER;
+        }
+    }),
+    acting("refuses 0 more where 100,000 are reduced", |case, ledger, answer| {
+        if reduces(case, answer) && to_be_reduced(case).contains(&(MAX_MW, 0)) {
+            refuse(case, ledger, answer, BAD_LEDGER);
+        }
+    }),
+    acting("does not let reduced reach 100,000", |case, ledger, answer| {
+        let reaches = |(has, mw): (u32, u32)| mw > 0 && has + mw == MAX_MW;
+        if reduces(case, answer) && to_be_reduced(case).into_iter().any(reaches) {
+            refuse(case, ledger, answer, BAD_LEDGER);
+        }
+    }),
+    acting("holds the sum of reduced over the hours to 100,000", |case, ledger, answer| {
+        let sum = |hours: Vec<(u32, u32)>| hours.iter().map(|(has, mw)| has + mw).sum::<u32>();
+        if reduces(case, answer) && sum(to_be_reduced(case)) > MAX_MW {
+            refuse(case, ledger, answer, BAD_LEDGER);
+        }
+    }),
+    acting("takes a row with reduced words for one in use", |case, ledger, answer| {
+        let Some(row) = row_of(ledger, answer) else { return };
+        let annuls = (answer.before, answer.after) == (CONFIRMED, ANNULLED);
+        if annuls && ledger[row.profile(REDUCED_MW)].iter().any(|&mw| mw > 0) {
+            refuse(case, ledger, answer, IN_USE);
+        }
+    }),
+    unbalancing("counts reduced as available when annulling", |case, ledger, answer| {
+        if answer.number == IN_USE {
+            again(case, ledger, answer, |ledger, row| {
+                for (available, reduced) in row.profile(AVAILABLE).zip(row.profile(REDUCED_MW)) {
+                    ledger[available] = (ledger[available] + ledger[reduced]).min(MAX_MW);
+                }
+            });
+        }
+    }),
     // Fields.
     acting("does not restart the limit", |case, ledger, answer| {
         let Some(row) = row_of(ledger, answer) else { return };
@@ -755,7 +945,7 @@ pub const FAULTS: &[Faulty] = &[
     acting("does not look at unused rows", |case, ledger, answer| {
         overlook(case, ledger, answer, |ledger| {
             if let Some(row) = used_rows(ledger).last() {
-                ledger[row.profile(DISPLACED_MW).end..].fill(0);
+                ledger[row.profile(PROFILES - 1).end..].fill(0);
             }
         });
     }),
@@ -775,23 +965,30 @@ pub const FAULTS: &[Faulty] = &[
         overlook(case, ledger, answer, |ledger| at_most(ledger, CUSTOMER, MAX_ENTITY));
     }),
     acting("does not look at displaced words", |case, ledger, answer| {
-        overlook(case, ledger, answer, |ledger| {
-            for row in used_rows(ledger) {
-                ledger[row.profile(DISPLACED_MW)].iter_mut().for_each(|mw| *mw = (*mw).min(MAX_MW));
-            }
-        });
+        overlook(case, ledger, answer, |ledger| bring_down(ledger, DISPLACED_MW));
+    }),
+    acting("does not look at the bound of reduced words", |case, ledger, answer| {
+        overlook(case, ledger, answer, |ledger| bring_down(ledger, REDUCED_MW));
     }),
     acting("does not look outside the span", |case, ledger, answer| {
+        overlook(case, ledger, answer, |ledger| clear_outside(ledger, REQUESTED));
+    }),
+    acting("does not look at reduced words outside the span", |case, ledger, answer| {
+        overlook(case, ledger, answer, |ledger| clear_outside(ledger, REDUCED_MW));
+    }),
+    acting("does not look at the reduced profile", |case, ledger, answer| {
         overlook(case, ledger, answer, |ledger| {
-            for row in used_rows(ledger) {
-                let (start, stop) = (row.get(ledger, START), row.get(ledger, STOP));
-                for hour in 0..row.hours {
-                    if hour < start as usize || hour >= stop as usize {
-                        ledger[row.profile(REQUESTED).start + hour] = 0;
-                    }
-                }
-            }
+            bring_down(ledger, REDUCED_MW);
+            clear_outside(ledger, REDUCED_MW);
         });
+    }),
+    acting("takes rows of four profiles", |case, ledger, answer| {
+        let [rows, hours, ..] = *case.before else { return };
+        if answer.number == BAD_LEDGER && fits_four(case.before.len(), rows, hours) {
+            let mut five = laid_out(case.before, PROFILES - 1, PROFILES);
+            *answer = act(&mut five, &mut case.postings.to_vec(), case.words, case.action);
+            ledger.copy_from_slice(&laid_out(&five, PROFILES, PROFILES - 1));
+        }
     }),
     acting("does not look at an original's related reference", |case, ledger, answer| {
         overlook(case, ledger, answer, |ledger| {
@@ -928,6 +1125,17 @@ pub const FAULTS: &[Faulty] = &[
                 for (available, displaced) in row.profile(AVAILABLE).zip(row.profile(DISPLACED_MW))
                 {
                     all[available] += left[displaced];
+                }
+            }
+            either_over(&all, case.postings, row, counted)
+        });
+    }),
+    acting("counts reduced megawatts in the use", |case, ledger, answer| {
+        judged(case, ledger, answer, |left, row| {
+            let mut all = left.to_vec();
+            for row in used_rows(left) {
+                for (available, reduced) in row.profile(AVAILABLE).zip(row.profile(REDUCED_MW)) {
+                    all[available] += left[reduced];
                 }
             }
             either_over(&all, case.postings, row, counted)
@@ -1304,6 +1512,21 @@ pub const FAULTS: &[Faulty] = &[
         }),
     ),
     calling(
+        "creates rows of four profiles",
+        Fault::Create(|ledger, numbers| {
+            let [rows, hours, ..] = numbers;
+            if !fits_four(ledger.len(), rows, hours) {
+                return Model.create(ledger, numbers);
+            }
+            let mut five = vec![0; ledger_words(rows, hours)];
+            let number = Model.create(&mut five, numbers);
+            if number == 0 {
+                ledger.copy_from_slice(&laid_out(&five, PROFILES, PROFILES - 1));
+            }
+            number
+        }),
+    ),
+    calling(
         "creates past the last hour",
         Fault::Create(|ledger, [rows, hours, provider, window, base]| {
             let number = Model.create(ledger, [rows, hours, provider, window, base]);
@@ -1341,6 +1564,21 @@ pub const FAULTS: &[Faulty] = &[
             (0, _) => {
                 let row = Row::of(ledger, reference);
                 let mwh: u64 = ledger[row.profile(AVAILABLE)].iter().map(|&mw| u64::from(mw)).sum();
+                (0, (mwh * u64::from(row.get(ledger, BID)) + 12) / 24)
+            }
+            refused => refused,
+        }),
+    ),
+    calling(
+        "charges less for what was reduced",
+        Fault::Charge(|ledger, reference| match Model.charge(ledger, reference) {
+            (0, _) => {
+                let row = Row::of(ledger, reference);
+                let hours = row.profile(GRANTED).zip(row.profile(REDUCED_MW));
+                let mwh: u64 = hours
+                    .map(|(granted, reduced)| ledger[granted].saturating_sub(ledger[reduced]))
+                    .map(u64::from)
+                    .sum();
                 (0, (mwh * u64::from(row.get(ledger, BID)) + 12) / 24)
             }
             refused => refused,

@@ -1,8 +1,8 @@
 //! Lists from fresh ledgers with nothing posted, biased to accepted actions and
-//! deep chains: resale of redirect of resale, transfers, relinquishing,
-//! displacement, annulments, lapses, the clock, and postings going up and down on
-//! several paths. After each action no path is used beyond its posting, and after
-//! each list the tally must balance.
+//! deep chains: resale of redirect of resale, transfers, relinquishing, reductions
+//! of one row again and again, displacement, annulments, lapses, the clock, and
+//! postings going up and down on several paths. After each action no path is used
+//! beyond its posting, and after each list the tally must balance.
 
 use luddrisa_model::*;
 
@@ -99,7 +99,8 @@ pub fn submission(rng: &mut Rng, ledger: &[u32], words: &mut Words) -> Action {
         let stop = rng.from_to(start + 1, hours);
         let (start, stop) = if rng.chance(70) { (0, hours) } else { (start, stop) };
         let most = rng.pick(&[10, 10, 1_000, 1_000, 1_000, 20_000, MAX_MW]);
-        let profile: Vec<u32> = (start..stop).map(|_| rng.from_to(most / 2 + 1, most)).collect();
+        let least = if rng.chance(40) { most } else { most / 2 + 1 };
+        let profile: Vec<u32> = (start..stop).map(|_| rng.from_to(least, most)).collect();
         let action = Action {
             kind: SUBMIT,
             actor: customer_of(rng, ledger),
@@ -313,6 +314,35 @@ fn step(rng: &mut Rng, ledger: &[u32], words: &mut Words, reference: u32) -> Act
     }
 }
 
+/// Those of the references whose rows were reduced before.
+fn reduced(ledger: &[u32], references: &[u32]) -> Vec<u32> {
+    let is_reduced = |reference: &u32| {
+        let row = Row::of(ledger, *reference);
+        ledger[row.profile(REDUCED_MW)].iter().any(|&mw| mw > 0)
+    };
+    references.iter().copied().filter(is_reduced).collect()
+}
+
+/// A reduction of a CONFIRMED row, often of one that was reduced before.
+fn reduction(rng: &mut Rng, ledger: &[u32], words: &mut Words, held: &[u32]) -> Action {
+    let again = reduced(ledger, held);
+    let any = again.is_empty() || rng.chance(50);
+    let reference = rng.pick(if any { held } else { &again });
+    let row = Row::of(ledger, reference);
+    let extent = rng.below(100);
+    let profile: Vec<u32> = ledger[row.span(ledger, AVAILABLE)]
+        .iter()
+        .map(|&mw| match extent {
+            0..12 => mw,
+            12..30 => rng.pick(&[0, mw]),
+            30..34 => (mw + rng.below(2)).min(MAX_MW),
+            _ => rng.from_to(0, mw.min(20)),
+        })
+        .collect();
+    let action = Action { kind: REDUCE, actor: ledger[PROVIDER], reference, ..Action::default() };
+    with_profile(words, action, &profile)
+}
+
 /// The next action of a list.
 fn next_action(
     rng: &mut Rng,
@@ -335,7 +365,7 @@ fn next_action(
     let provider = Action { actor: ledger[PROVIDER], ..Action::default() };
     let full = ledger[USED] == ledger[ROWS];
     let die = match (full && rng.chance(95), open.is_empty()) {
-        (true, true) => rng.below(16),
+        (true, true) => rng.below(17),
         (true, false) => rng.below(70),
         (false, _) => rng.below(100),
     };
@@ -345,24 +375,16 @@ fn next_action(
             let steps = [0, 1, ledger[WINDOW], ledger[WINDOW] / 2 + 1];
             Action { kind: CLOCK, time: ledger[NOW].saturating_add(rng.pick(&steps)), ..provider }
         }
-        4..9 if !held.is_empty() => {
-            let reference = rng.pick(&held);
-            let row = Row::of(ledger, reference);
-            let whole = rng.chance(10);
-            let reduction: Vec<u32> = ledger[row.span(ledger, AVAILABLE)]
-                .iter()
-                .map(|&mw| if whole { mw } else { rng.from_to(0, mw.min(20)) })
-                .collect();
-            with_profile(words, Action { kind: REDUCE, reference, ..provider }, &reduction)
-        }
-        9..16 if !held.is_empty() && !calm => {
-            let reference = late_pick(rng, &held).unwrap();
+        4..10 if !held.is_empty() => reduction(rng, ledger, words, &held),
+        10..17 if !held.is_empty() && !calm => {
+            let of_reduced = late_pick(rng, &reduced(ledger, &held)).filter(|_| rng.chance(30));
+            let reference = of_reduced.or_else(|| late_pick(rng, &held)).unwrap();
             let row = Row::of(ledger, reference);
             let status = if rng.chance(25) { DISPLACED } else { ANNULLED };
             let actor = if rng.chance(20) { ledger[PROVIDER] } else { row.get(ledger, SELLER) };
             Action { kind: SELLER_STATUS, actor, reference, status, ..Action::default() }
         }
-        9..70 if !open.is_empty() => {
+        10..70 if !open.is_empty() => {
             let reference = late_pick(rng, &open).unwrap();
             step(rng, ledger, words, reference)
         }

@@ -23,8 +23,8 @@ pub const PAIRS: [(u32, &[u32]); 9] = [
 ];
 
 /// The kinds that can give 1 on a sound ledger and its postings, for a word over
-/// 100,000: displacing, annulling and confirming a type 8 row.
-pub const OVER_BOUND: [u32; 3] = [SELLER_STATUS, CUSTOMER_STATUS, LAPSE];
+/// 100,000: displacing, annulling, confirming a type 8 row, and reducing.
+pub const OVER_BOUND: [u32; 4] = [SELLER_STATUS, CUSTOMER_STATUS, REDUCE, LAPSE];
 
 /// What a 1 was for; all other numbers are plain.
 #[derive(Clone, Copy, Debug, PartialEq, Eq, PartialOrd, Ord)]
@@ -92,6 +92,48 @@ pub enum Back {
 
 type Effect = (u32, Moved, u32, Back);
 
+/// What an action met in the reduced words of a row.
+#[derive(Clone, Copy, Debug, PartialEq, Eq, PartialOrd, Ord)]
+pub enum Reduced {
+    /// A row with none is reduced.
+    First,
+    /// A row with some is reduced again.
+    Again,
+    /// A reduction reaches 100,000 in an hour.
+    ToBound,
+    /// A reduction adds 0 in an hour that has 100,000.
+    NoMoreAtBound,
+    /// A reduction is refused with 1, for a reduced word alone.
+    Over,
+    /// A reduction is refused with 14, and a reduced word would pass as well.
+    ShortAndOver,
+    /// A row with some is displaced.
+    Displaced,
+    /// A CONFIRMED row with some is annulled.
+    Annulled,
+    /// A row with some is confirmed.
+    Confirmed,
+    /// A row with some is given megawatts back, to its available.
+    BackToAvailable,
+    /// The same to its displaced.
+    BackToDisplaced,
+}
+
+/// All of them.
+pub const REDUCED: [Reduced; 11] = [
+    Reduced::First,
+    Reduced::Again,
+    Reduced::ToBound,
+    Reduced::NoMoreAtBound,
+    Reduced::Over,
+    Reduced::ShortAndOver,
+    Reduced::Displaced,
+    Reduced::Annulled,
+    Reduced::Confirmed,
+    Reduced::BackToAvailable,
+    Reduced::BackToDisplaced,
+];
+
 /// What a run reached.
 #[derive(Clone, Debug, Default)]
 pub struct Reached {
@@ -102,12 +144,21 @@ pub struct Reached {
     effects: BTreeSet<Effect>,
     /// Kind, what it would have done, and type of the rows refused with 22.
     over_posting: BTreeSet<(u32, Moved, u32)>,
+    /// What was met in reduced words, and type of the row; how often.
+    reduced: BTreeMap<(Reduced, u32), u64>,
     calls: BTreeSet<(&'static str, u32)>,
 }
 
 impl Reached {
     /// Notes an answer; the ledger and its postings are as the action left them.
-    pub fn note(&mut self, ledger: &[u32], postings: &[u32], action: &Action, answer: &Answer) {
+    pub fn note(
+        &mut self,
+        ledger: &[u32],
+        postings: &[u32],
+        words: &[u32],
+        action: &Action,
+        answer: &Answer,
+    ) {
         let kind = if (SUBMIT..=POST).contains(&action.kind) { action.kind } else { NO_KIND };
         let of = match answer.number {
             BAD_LEDGER if sound(ledger) && !postings_fit(postings, ledger[HOURS]) => {
@@ -117,6 +168,10 @@ impl Reached {
             _ => Of::Plain,
         };
         *self.pairs.entry((kind, answer.number, of)).or_default() += 1;
+        let is_compared = matches!(answer.number, 0 | SHORT) || of == Of::WordOverBound;
+        if kind == REDUCE && is_compared {
+            self.note_reduction(ledger, words, action, answer.number);
+        }
         if answer.number == OVER_POSTING && kind != POST {
             let annuls = kind == SELLER_STATUS && action.status == ANNULLED;
             let moved = if annuls { Moved::Annulled } else { Moved::Confirmed };
@@ -148,6 +203,57 @@ impl Reached {
             Some(_) => Back::ToDisplaced,
         };
         self.effects.insert((kind, moved, reqtype, back));
+        match moved {
+            Moved::Confirmed => self.met_if_reduced(ledger, row, Reduced::Confirmed),
+            Moved::Annulled => self.met_if_reduced(ledger, row, Reduced::Annulled),
+            Moved::Displaced => self.met_if_reduced(ledger, row, Reduced::Displaced),
+            Moved::Reduced => (),
+        }
+        if let Some(above) = receiver.map(|above| Row::of(ledger, above)) {
+            let to_available = back == Back::ToAvailable;
+            let met =
+                if to_available { Reduced::BackToAvailable } else { Reduced::BackToDisplaced };
+            self.met_if_reduced(ledger, above, met);
+        }
+    }
+
+    fn met(&mut self, ledger: &[u32], row: Row, met: Reduced) {
+        *self.reduced.entry((met, row.get(ledger, TYPE))).or_default() += 1;
+    }
+
+    fn met_if_reduced(&mut self, ledger: &[u32], row: Row, met: Reduced) {
+        if ledger[row.profile(REDUCED_MW)].iter().any(|&mw| mw > 0) {
+            self.met(ledger, row, met);
+        }
+    }
+
+    /// A reduction whose profile was compared with what is available.
+    fn note_reduction(&mut self, ledger: &[u32], words: &[u32], action: &Action, number: u32) {
+        let row = Row::of(ledger, action.reference);
+        let profile = &words[action.offset as usize..][..action.length as usize];
+        // Reduced words, as they stand afterwards, with what was to be added.
+        let hours: Vec<(u32, u32)> = ledger[row.span(ledger, REDUCED_MW)]
+            .iter()
+            .copied()
+            .zip(profile.iter().copied())
+            .collect();
+        let any = |test: fn(u32, u32) -> bool| hours.iter().any(|&(stands, mw)| test(stands, mw));
+        let met = match number {
+            BAD_LEDGER => vec![(Reduced::Over, true)],
+            SHORT => vec![(Reduced::ShortAndOver, any(|stands, mw| stands + mw > MAX_MW))],
+            _ => {
+                let had_some = any(|stands, mw| stands > mw);
+                vec![
+                    (Reduced::First, !had_some),
+                    (Reduced::Again, had_some),
+                    (Reduced::ToBound, any(|stands, mw| stands == MAX_MW && mw > 0)),
+                    (Reduced::NoMoreAtBound, any(|stands, mw| stands == MAX_MW && mw == 0)),
+                ]
+            }
+        };
+        for (met, _) in met.into_iter().filter(|&(_, was_met)| was_met) {
+            self.met(ledger, row, met);
+        }
     }
 
     pub fn note_call(&mut self, call: &'static str, number: u32) {
@@ -169,7 +275,17 @@ impl Reached {
             }
             lines.push('\n');
         }
+        lines.push_str("reduced words:");
+        for met in REDUCED {
+            lines.push_str(&format!(" {met:?} × {};", self.times_reduced(met)));
+        }
+        lines.push('\n');
         lines
+    }
+
+    /// How often a thing was met in reduced words, in rows of any type.
+    pub fn times_reduced(&self, met: Reduced) -> u64 {
+        self.reduced.iter().filter(|((what, _), _)| *what == met).map(|(_, times)| times).sum()
     }
 
     /// What was refused with 22, by what would have moved and the type.
@@ -184,6 +300,8 @@ impl Reached {
         same("move (kind, before, after)", &listed_moves(), &self.moves)?;
         same("effect (kind, moved, type, given back)", &listed_effects(), &self.effects)?;
         same("22 (kind, moved, type)", &listed_over_posting(), &self.over_posting)?;
+        let reduced = self.reduced.keys().copied().collect();
+        same("reduced words (what was met, type)", &listed_reduced(), &reduced)?;
         same("call (name, number)", &listed_calls(), &self.calls)
     }
 }
@@ -223,6 +341,21 @@ pub fn listed_over_posting() -> BTreeSet<(u32, Moved, u32)> {
     }
     for reqtype in [PART_TRANSFER, FULL_TRANSFER] {
         listed.insert((APPROVE, Moved::Confirmed, reqtype));
+    }
+    listed
+}
+
+/// On foreign ledgers rows of any type and status have reduced words. A type 8 row
+/// can only be confirmed, and nothing is given back to types 5 and 8.
+pub fn listed_reduced() -> BTreeSet<(Reduced, u32)> {
+    let mut listed = BTreeSet::new();
+    for met in REDUCED {
+        let types: &[u32] = match met {
+            Reduced::Confirmed => &[1, 2, 3, 4, 5, 6, 7, 8],
+            Reduced::BackToAvailable | Reduced::BackToDisplaced => &[1, 2, 3, 4, 6, 7],
+            _ => &[1, 2, 3, 4, 5, 6, 7],
+        };
+        listed.extend(types.iter().map(|&reqtype| (met, reqtype)));
     }
     listed
 }
@@ -274,10 +407,11 @@ fn listed_calls() -> BTreeSet<(&'static str, u32)> {
 #[cfg(test)]
 mod tests {
     use super::*;
+    use crate::edges::one_row;
 
     #[test]
     fn the_tables_hold_what_the_paper_lists() {
-        assert_eq!(listed_pairs().len(), 73 + 9 + 3);
+        assert_eq!(listed_pairs().len(), 73 + 9 + 4);
         // Kinds 2 and 3 move as the paper's two lists say.
         let of = |kind| listed_moves().iter().filter(|mv| mv.0 == kind).count();
         assert_eq!(of(SELLER_STATUS), 1 + 2 + 3 + 4 + 4 + 8 + 6 + 6 + 4 + 4 + 4 + 1 + 1 + 8);
@@ -285,6 +419,7 @@ mod tests {
         assert_eq!(of(APPROVE), 8 + 1);
         assert_eq!(listed_effects().len(), 3 * 9 + 2 + 7 + 7 + 2 + 5 * 2);
         assert_eq!(listed_over_posting().len(), 3 * 8 + 7 + 2);
+        assert_eq!(listed_reduced().len(), 8 * 7 + 8 + 2 * 6);
     }
 
     #[test]
@@ -296,6 +431,8 @@ mod tests {
         reached.moves = listed_moves();
         reached.effects = listed_effects();
         reached.over_posting = listed_over_posting();
+        let all_met = || listed_reduced().into_iter().map(|met| (met, 1)).collect();
+        reached.reduced = all_met();
         reached.calls = listed_calls();
         assert_eq!(reached.check(), Ok(()));
         reached.pairs.remove(&(LAPSE, NOT_APPROVED, Of::Plain));
@@ -306,5 +443,38 @@ mod tests {
         reached.pairs = once();
         reached.over_posting.remove(&(APPROVE, Moved::Confirmed, FULL_TRANSFER));
         assert!(reached.check().unwrap_err().contains("(4, Confirmed, 7)"));
+        reached.over_posting = listed_over_posting();
+        reached.reduced.remove(&(Reduced::NoMoreAtBound, RESALE));
+        assert!(reached.check().unwrap_err().contains("never reached [(NoMoreAtBound, 3)]"));
+        reached.reduced = all_met();
+        reached.reduced.insert((Reduced::Annulled, RELINQUISH), 1);
+        assert!(reached.check().unwrap_err().contains("not in the paper [(Annulled, 8)]"));
+    }
+
+    /// What a reduction meets in the reduced words of a row.
+    fn met_in(reduced: [u32; 2], available: [u32; 2], profile: [u32; 2]) -> Vec<Reduced> {
+        let mut ledger = one_row(available, reduced);
+        let action =
+            Action { kind: REDUCE, actor: 1, reference: 1, length: 2, ..Action::default() };
+        let mut postings = vec![0; posting_words(3)];
+        let answer = act(&mut ledger, &mut postings, &profile, &action);
+        let mut reached = Reached::default();
+        reached.note(&ledger, &postings, &profile, &action, &answer);
+        reached.reduced.into_keys().map(|(met, _)| met).collect()
+    }
+
+    #[test]
+    fn reduced_words_are_told_apart() {
+        use super::Reduced::*;
+        const FULL: u32 = MAX_MW;
+        assert_eq!(met_in([0, 0], [5, 5], [5, 0]), [First]);
+        assert_eq!(met_in([0, 1], [5, 5], [5, 0]), [Again]);
+        assert_eq!(met_in([0, FULL - 5], [5, 5], [0, 5]), [Again, ToBound]);
+        assert_eq!(met_in([0, FULL], [5, 5], [5, 0]), [Again, NoMoreAtBound]);
+        assert_eq!(met_in([0, 0], [FULL, 5], [FULL, 0]), [First, ToBound]);
+        assert_eq!(met_in([0, FULL], [5, 5], [0, 1]), [Over]);
+        assert_eq!(met_in([0, FULL], [5, 5], [6, 1]), [ShortAndOver]);
+        assert_eq!(met_in([0, FULL], [5, 5], [6, 0]), []);
+        assert_eq!(met_in([0, FULL], [5, 5], [0, 0]), []);
     }
 }

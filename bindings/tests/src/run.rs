@@ -178,7 +178,7 @@ impl<'a> Run<'a> {
         if ours[0].number == 0 && !desk.is_sound() {
             return Err(format!("{action:?} left an unsound ledger or postings"));
         }
-        self.reached.note(desk.ledger(), desk.postings(), action, &ours[0]);
+        self.reached.note(desk.ledger(), desk.postings(), words, action, &ours[0]);
         Ok(ours[0])
     }
 

@@ -32,6 +32,7 @@ fn everything(run: &mut Run, seed: u64, scale: u32) -> Result<(), Difference> {
     lists::lists(run, seed, 15 * scale)?;
     dense::dense(run, seed, 100 * scale)?;
     edges::edges(run, seed, 2 * scale)?;
+    edges::reductions(run)?;
     batches::batches(run, seed, 4 * scale)?;
     stamps::stamps(run, seed, 200 * scale)
 }
@@ -57,11 +58,11 @@ fn limits_judged_apart_agree_with_the_model() {
 #[test]
 fn planted_faults_are_caught() {
     // Without a fault the same seeds find nothing.
-    assert_eq!(everything(&mut Run::new(&Model), SEED, 8), Ok(()));
+    assert_eq!(everything(&mut Run::new(&Model), SEED, 16), Ok(()));
     let mut missed = Vec::new();
     for faulty in FAULTS {
         let mut run = Run::new(faulty);
-        match everything(&mut run, SEED, 8) {
+        match everything(&mut run, SEED, 16) {
             Ok(()) => missed.push(faulty.name),
             Err(difference) => {
                 let told: String = difference.chars().take(100).collect();
@@ -70,7 +71,7 @@ fn planted_faults_are_caught() {
         }
     }
     assert!(missed.is_empty(), "not caught: {missed:?}");
-    assert!(FAULTS.len() > 110);
+    assert!(FAULTS.len() > 135, "only {}", FAULTS.len());
 }
 
 #[test]
@@ -80,7 +81,7 @@ fn the_balance_alone_catches_lost_megawatts() {
     };
     expect_agreement(lists(SUBJECT).map_or(Ok(()), Err));
     let unbalanced: Vec<_> = FAULTS.iter().filter(|faulty| faulty.unbalanced).collect();
-    assert!(unbalanced.len() >= 6);
+    assert!(unbalanced.len() >= 13);
     for faulty in unbalanced {
         assert!(lists(faulty).is_some(), "not caught: {}", faulty.name);
     }
@@ -111,6 +112,32 @@ fn lists_meet_the_limits_where_use_can_grow() {
         .map(|reqtype| (Confirmed, reqtype));
     let expected = grows.into_iter().chain([(Annulled, REDIRECT_FIRM)]).collect();
     assert_eq!(run.reached.over_posting(), expected);
+}
+
+/// Lists reduce rows again and again, to 100,000 and before displacing and giving
+/// back. On none of them does a reduced word pass, and a row that is confirmed or
+/// annulled has none.
+#[test]
+fn lists_keep_what_was_reduced() {
+    use luddrisa_tests::reached::Reduced::*;
+    let mut run = Run::new(SUBJECT);
+    expect_agreement(lists::lists(&mut run, SEED, 1_500));
+    let times = |met| run.reached.times_reduced(met);
+    for (met, least) in [
+        (First, 2_000),
+        (Again, 2_000),
+        (ToBound, 20),
+        (NoMoreAtBound, 20),
+        (Displaced, 200),
+        (BackToAvailable, 200),
+        (BackToDisplaced, 20),
+    ] {
+        println!("{met:?} × {}", times(met));
+        assert!(times(met) >= least, "{met:?} only {} times", times(met));
+    }
+    for never in [Over, Confirmed, Annulled] {
+        assert_eq!(times(never), 0, "{never:?}");
+    }
 }
 
 /// The lists do go deep: resale of redirect of resale, and all the rest.

@@ -101,6 +101,9 @@ fn part_of_row(verb: &[u8], hours: usize) -> Part
     if same(verb, b"displaced") {
         return profile(hours, DISPLACED_PART);
     }
+    if same(verb, b"reduced") {
+        return profile(hours, REDUCED_PART);
+    }
     words_of_row(verb)
 }
 

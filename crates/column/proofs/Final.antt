@@ -11,7 +11,7 @@ use Rattle.column.specs.Sum.{gate, choose, sumTo}
 use Rattle.column.specs.Column.{Col, part, either, hit, On}
 use Rattle.column.specs.Step.{Fresh, Run, fresh, next, post}
 use Rattle.column.specs.Use.{Within}
-use Rattle.column.specs.Demand.{Live, NotNegative, Whole, inside, gateℤ, sumℤ, Tree, Demand3}
+use Rattle.column.specs.Demand.{Live, NotNegative, Whole, Five, inside, gateℤ, sumℤ, Tree, StoredTree, Demand3}
 use Rattle.column.proofs.Sums.{eqb-other, gate-le, gate-swap, sum-ext, sum-le, sum-zero, sum-add}
 use Rattle.column.proofs.Fits.{Fit, off, gone, bent, held, fit-sum, fit-w-held, fit-r-off}
 use Rattle.column.proofs.Flow.{flow, into, all, of, into-zero, into-none, hit-other, Inv, Shape}
@@ -54,8 +54,11 @@ not-negative : {z : ℤ} {n : ℕ} → z ≡ pos n → NotNegative z
 not-negative e = subst NotNegative (sym e) tt
 
 whole-of : {S : Col} → Inv S → (n : ℕ) → Live (S .st n) → S .ty n ≢ 8 → Whole S n
-whole-of {S} I n l t = record {
-  sum = rw (I .out-is 0 n, I .out-is 1 n, I .out-is 2 n, I .out-is 3 n, I .red-is n) (ap pos (omega (arith, fit-sum (I .fit n) (on l) t, flows S (I .w) n)));
+whole-of {S} I n l t =
+    rw (I .out-is 0 n, I .out-is 1 n, I .out-is 2 n, I .out-is 3 n, I .red-is n) (ap pos (omega (arith, fit-sum (I .fit n) (on l) t, flows S (I .w) n)))
+
+five-of : {S : Col} → Inv S → (n : ℕ) → Five S n
+five-of {S} I n = record {
   resold = not-negative (I .out-is 0 n);
   redirected = not-negative (I .out-is 1 n);
   transferred = not-negative (I .out-is 2 n);
@@ -109,7 +112,7 @@ module _ {S : Col} (H : Shape S) (I : Inv S) where
   v n = gate (non8 (S .ty n)) (I .w n)
 
   x : ℕ → ℕ
-  x n = S .a n + S .d n + I .r n
+  x n = S .a n + S .d n + S .r n
 
   local : (n : ℕ) → v n ≡ x n + flow non8 S (I .w) n
   unfolding v x
@@ -124,7 +127,7 @@ module _ {S : Col} (H : Shape S) (I : Inv S) where
       w-not : S .ty n ≢ 8 → v n ≡ I .w n
       w-not e = ap (λ b. gate b (I .w n)) (not-8 e)
 
-      go : Fit (S .ty n) (S .st n) (S .g n) (S .a n) (S .d n) (I .r n) (I .w n) (flow all S (I .w) n) → v n ≡ x n + flow non8 S (I .w) n
+      go : Fit (S .ty n) (S .st n) (S .g n) (S .a n) (S .d n) (S .r n) (I .w n) (flow all S (I .w) n) → v n ≡ x n + flow non8 S (I .w) n
       go (off u y) = omega (arith, w-le, some-le H (I .w) n)
       go (gone u z y) = omega (arith, w-8 z, some-le H (I .w) n)
       go (bent u z y) = omega (arith, w-not (omega arith), under-five H (I .w) n z)
@@ -148,11 +151,9 @@ gate-pos : (b : Bool) {z : ℤ} {n : ℕ} → z ≡ pos n → gateℤ b z ≡ po
 gate-pos true e = e
 gate-pos false e = refl
 
-tree-of : {S : Col} → Shape S → Inv S → (o : ℕ) → Live (S .st o) → S .ty o ≤ 2 → Tree S o
+stored-tree-of : {S : Col} → Shape S → Inv S → (o : ℕ) → Live (S .st o) → S .ty o ≤ 2 → StoredTree S o
 unfolding v x
-tree-of {S} H I o l t =
-    ap pos (omega (arith, drawn, tree-nat H I o (H .top o t) used))
-    ∙ sym (sum-pos (S .used) _ (λ n. gate (inside (S .ref) o n) (x H I n)) (λ n. gate-pos (inside (S .ref) o n) (ap (λ z. pos (S .a n + S .d n) +ℤ z) (I .red-is n))))
+stored-tree-of {S} H I o l t = sym drawn ∙ tree-nat H I o (H .top o t) used
   where
     used : o < S .used
     used = go (decLt o (S .used))
@@ -164,8 +165,19 @@ tree-of {S} H I o l t =
     drawn : v H I o ≡ S .g o
     drawn = ap (λ b. gate b (I .w o)) (not-8 (omega arith)) ∙ fit-w-held (I .fit o) (on l) (omega arith) (omega arith)
 
+tree-of : {S : Col} → Shape S → Inv S → (o : ℕ) → Live (S .st o) → S .ty o ≤ 2 → Tree S o
+tree-of {S} H I o l t =
+    ap pos (stored-tree-of H I o l t)
+    ∙ sym (sum-pos (S .used) _ (λ n. gate (inside (S .ref) o n) (S .a n + S .d n + S .r n)) (λ n. gate-pos (inside (S .ref) o n) (ap (λ z. pos (S .a n + S .d n) +ℤ z) (I .red-is n))))
+
 pub demand3-of : {S : Col} → Shape S → Inv S → Demand3 S
-demand3-of {S} H I = record { whole = whole-of I; tree = λ o l t. tree-of H I o l (go t) }
+demand3-of {S} H I = record {
+  stored = I .red-is;
+  five = five-of I;
+  whole = whole-of I;
+  tree = λ o l t. tree-of H I o l (go t);
+  stored-tree = λ o l t. stored-tree-of H I o l (go t);
+}
   where
     go : {t : ℕ} → (t ≡ 1) ⊎ (t ≡ 2) → t ≤ 2
     go (inl e) = omega arith
@@ -187,10 +199,9 @@ pub fresh-inv : {S : Col} → Fresh S → Inv S
 unfolding flow
 fresh-inv {S} F = record {
   w = λ n. 0;
-  r = λ n. 0;
-  fit = λ n. off (omega (arith, F .st n)) (omega (arith, F .a n, F .d n, none all n));
+  fit = λ n. off (omega (arith, F .st n)) (omega (arith, F .a n, F .d n, F .r n, none all n));
   out-is = λ k n. F .out k n ∙ ap pos (sym (none (of k) n));
-  red-is = F .red;
+  red-is = λ n. F .red n ∙ ap pos (sym (F .r n));
 }
   where
     none : (b : ℕ → Bool) (n : ℕ) → flow b S (λ n. 0) n ≡ 0

@@ -79,15 +79,14 @@ module _ (b : ℕ → Bool) where
       (λ i k k'. ap (into b (S .ty i) (S .ref i) n) (e i k k'))
 
 -- the invariant
-abbrev pub FitAt : Col → (ℕ → ℕ) → (ℕ → ℕ) → ℕ → Type 0
-FitAt S w r n = Fit (S .ty n) (S .st n) (S .g n) (S .a n) (S .d n) (r n) (w n) (flow all S w n)
+abbrev pub FitAt : Col → (ℕ → ℕ) → ℕ → Type 0
+FitAt S w n = Fit (S .ty n) (S .st n) (S .g n) (S .a n) (S .d n) (S .r n) (w n) (flow all S w n)
 
 pub record Inv (S : Col) : Type 0 where
   pub w : ℕ → ℕ
-  pub r : ℕ → ℕ
-  pub fit : (n : ℕ) → FitAt S w r n
+  pub fit : (n : ℕ) → FitAt S w n
   pub out-is : (k n : ℕ) → S .out k n ≡ pos (flow (of k) S w n)
-  pub red-is : (n : ℕ) → S .red n ≡ pos (r n)
+  pub red-is : (n : ℕ) → S .red n ≡ pos (S .r n)
 
 -- what never changes once a row is there
 pub record Shape (S : Col) : Type 0 where

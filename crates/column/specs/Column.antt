@@ -16,6 +16,8 @@ pub record Col : Type 0 where
   pub g : ℕ → ℕ
   pub a : ℕ → ℕ
   pub d : ℕ → ℕ
+  -- the reduced word of the row
+  pub r : ℕ → ℕ
   -- the tally: part k (0 resold, 1 redirected, 2 transferred, 3 relinquished) of row n, and reduced
   pub out : ℕ → ℕ → ℤ
   pub red : ℕ → ℤ

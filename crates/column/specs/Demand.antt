@@ -5,6 +5,7 @@ use mathlib.Core.Bool.{Bool, true, false}
 use Prim.Native.Nat.{ℕ, zero, suc, _+_, _≤_, _<_}
 use lib.Dec.{eqb}
 use lib.IntN.{ℤ, pos, negsuc, _+ℤ_}
+use Rattle.column.specs.Sum.{gate, sumTo}
 use Rattle.column.specs.Column.{Col, either}
 
 -- CONFIRMED or DISPLACED
@@ -15,9 +16,12 @@ abbrev pub NotNegative : ℤ → Type 0
 NotNegative (pos n) = Unit {0}
 NotNegative (negsuc n) = ⊥
 
--- granted is what is available, displaced, resold, redirected, transferred, relinquished and reduced, the last five not negative
-pub record Whole (S : Col) (n : ℕ) : Type 0 where
-  pub sum : pos (S .g n) ≡ pos (S .a n) +ℤ pos (S .d n) +ℤ S .out 0 n +ℤ S .out 1 n +ℤ S .out 2 n +ℤ S .out 3 n +ℤ S .red n
+-- granted is what is available, displaced, resold, redirected, transferred, relinquished and reduced
+abbrev pub Whole : Col → ℕ → Type 0
+Whole S n = pos (S .g n) ≡ pos (S .a n) +ℤ pos (S .d n) +ℤ S .out 0 n +ℤ S .out 1 n +ℤ S .out 2 n +ℤ S .out 3 n +ℤ S .red n
+
+-- none of the five of the tally is negative
+pub record Five (S : Col) (n : ℕ) : Type 0 where
   pub resold : NotNegative (S .out 0 n)
   pub redirected : NotNegative (S .out 1 n)
   pub transferred : NotNegative (S .out 2 n)
@@ -48,9 +52,17 @@ sumℤ (suc m) f = sumℤ m f +ℤ f m
 abbrev pub Tree : Col → ℕ → Type 0
 Tree S o = pos (S .g o) ≡ sumℤ (S .used) (λ n. gateℤ (inside (S .ref) o n) (pos (S .a n) +ℤ pos (S .d n) +ℤ S .red n))
 
+-- the same by the rows' reduced
+abbrev pub StoredTree : Col → ℕ → Type 0
+StoredTree S o = S .g o ≡ sumTo (S .used) (λ n. gate (inside (S .ref) o n) (S .a n + S .d n + S .r n))
+
+-- of every row: its reduced word is the tally's reduced, and none of the five is negative; then the two balances
 pub record Demand3 (S : Col) : Type 0 where
+  pub stored : (n : ℕ) → S .red n ≡ pos (S .r n)
+  pub five : (n : ℕ) → Five S n
   pub whole : (n : ℕ) → Live (S .st n) → S .ty n ≢ 8 → Whole S n
   pub tree : (o : ℕ) → Live (S .st o) → (S .ty o ≡ 1) ⊎ (S .ty o ≡ 2) → Tree S o
+  pub stored-tree : (o : ℕ) → Live (S .st o) → (S .ty o ≡ 1) ⊎ (S .ty o ≡ 2) → StoredTree S o
 
 -- descent as the paper has it: a row is inside o's tree where it is o, or refers to a row that is
 pub data From (ref : ℕ → ℕ) (o : ℕ) : ℕ → Type 0 where

@@ -20,6 +20,7 @@ pub record Still (S S' : Col) (n : ℕ) : Type 0 where
   pub g : S' .g n ≡ S .g n
   pub a : S' .a n ≡ S .a n
   pub d : S' .d n ≡ S .d n
+  pub r : S' .r n ≡ S .r n
 
 pub record OutStays (S S' : Col) : Type 0 where
   pub out : (k n : ℕ) → S' .out k n ≡ S .out k n
@@ -37,6 +38,7 @@ pub record Submit (S S' : Col) : Type 0 where
   pub st : Off (S' .st (S .used))
   pub a : S' .a (S .used) ≡ S .a (S .used)
   pub d : S' .d (S .used) ≡ S .d (S .used)
+  pub r : S' .r (S .used) ≡ S .r (S .used)
   pub lower : S' .ref (S .used) ≤ S .used
   pub top : S' .ty (S .used) ≤ 2 → S' .ref (S .used) ≡ 0
   pub under5 : (p : ℕ) → S' .ref (S .used) ≡ suc p → S' .ty (S .used) ≡ 8 → S .ty p ≡ 5
@@ -52,6 +54,7 @@ pub record Quiet (S S' : Col) (c : ℕ) : Type 0 where
   pub after : Off (S' .st c)
   pub a : S' .a c ≡ S .a c
   pub d : S' .d c ≡ S .d c
+  pub r : S' .r c ≡ S .r c
   pub rest : (n : ℕ) → n ≢ c → Still S S' n
   pub outs : OutStays S S'
   pub reds : RedStays S S'
@@ -65,6 +68,7 @@ pub record Top (S S' : Col) (c : ℕ) : Type 0 where
   pub after : S' .st c ≡ 13
   pub a : S' .a c ≡ S' .g c
   pub d : S' .d c ≡ S .d c
+  pub r : S' .r c ≡ S .r c
   pub rest : (n : ℕ) → n ≢ c → Still S S' n
   pub outs : OutStays S S'
   pub reds : RedStays S S'
@@ -79,11 +83,13 @@ pub record Child (S S' : Col) (c p : ℕ) : Type 0 where
   pub after : S' .st c ≡ 13
   pub a : S' .a c ≡ S' .g c
   pub d : S' .d c ≡ S .d c
+  pub r : S' .r c ≡ S .r c
   pub p-before : S .st p ≡ 13
   pub p-after : S' .st p ≡ 13
   pub p-g : S' .g p ≡ S .g p
   pub p-a : S' .a p + S' .g c ≡ S .a p
   pub p-d : S' .d p ≡ S .d p
+  pub p-r : S' .r p ≡ S .r p
   pub rest : (n : ℕ) → n ≢ c → n ≢ p → Still S S' n
   pub outs : (k n : ℕ) → S' .out k n ≡ S .out k n +ℤ pos (share k (S .ty c) (S .ref c) n (S' .g c))
   pub reds : RedStays S S'
@@ -99,14 +105,17 @@ pub record Give (S S' : Col) (c q p : ℕ) : Type 0 where
   pub after : S' .st c ≡ 13
   pub a : S' .a c ≡ 0
   pub d : S' .d c ≡ S .d c
+  pub r : S' .r c ≡ S .r c
   pub q-before : S .st q ≡ 13
   pub q-after : S' .st q ≡ 13
   pub q-g : S' .g q ≡ S .g q
   pub q-a : S' .a q + S' .g c ≡ S .a q
   pub q-d : S' .d q ≡ S .d q
+  pub q-r : S' .r q ≡ S .r q
   pub p-st : S' .st p ≡ S .st p
   pub p-g : S' .g p ≡ S .g p
   pub p-ad : S' .a p + S' .d p ≡ S .a p + S .d p + S' .g c
+  pub p-r : S' .r p ≡ S .r p
   pub p-a : S .st p ≡ 13 → S' .a p ≡ S .a p + S' .g c
   pub rest : (n : ℕ) → n ≢ c → n ≢ q → n ≢ p → Still S S' n
   pub outs : (k n : ℕ) → S' .out k n ≡ S .out k n +ℤ pos (share k (S .ty c) (S .ref c) n (S' .g c)) +ℤ negℤ (pos (share k (S .ty q) (S .ref q) n (S' .g c)))
@@ -122,6 +131,7 @@ pub record AnnulTop (S S' : Col) (c : ℕ) : Type 0 where
   pub after : Off (S' .st c)
   pub a : S' .a c ≡ 0
   pub d : S' .d c ≡ S .d c
+  pub r : S' .r c ≡ S .r c
   pub rest : (n : ℕ) → n ≢ c → Still S S' n
   pub outs : OutStays S S'
   pub reds : RedStays S S'
@@ -137,9 +147,11 @@ pub record AnnulChild (S S' : Col) (c p : ℕ) : Type 0 where
   pub after : Off (S' .st c)
   pub a : S' .a c ≡ 0
   pub d : S' .d c ≡ S .d c
+  pub r : S' .r c ≡ S .r c
   pub p-st : S' .st p ≡ S .st p
   pub p-g : S' .g p ≡ S .g p
   pub p-ad : S' .a p + S' .d p ≡ S .a p + S .d p + S .g c
+  pub p-r : S' .r p ≡ S .r p
   pub p-a : S .st p ≡ 13 → S' .a p ≡ S .a p + S .g c
   pub rest : (n : ℕ) → n ≢ c → n ≢ p → Still S S' n
   pub outs : (k n : ℕ) → S' .out k n ≡ S .out k n +ℤ negℤ (pos (share k (S .ty c) (S .ref c) n (S .g c)))
@@ -153,6 +165,7 @@ pub record Displace (S S' : Col) (c : ℕ) : Type 0 where
   pub g : S' .g c ≡ S .g c
   pub a : S' .a c ≡ 0
   pub d : S' .d c ≡ S .d c + S .a c
+  pub r : S' .r c ≡ S .r c
   pub rest : (n : ℕ) → n ≢ c → Still S S' n
   pub outs : OutStays S S'
   pub reds : RedStays S S'
@@ -165,6 +178,7 @@ pub record Reduce (S S' : Col) (c x : ℕ) : Type 0 where
   pub g : S' .g c ≡ S .g c
   pub a : S' .a c + x ≡ S .a c
   pub d : S' .d c ≡ S .d c
+  pub r : S' .r c ≡ S .r c + x
   pub rest : (n : ℕ) → n ≢ c → Still S S' n
   pub outs : OutStays S S'
   pub red : S' .red c ≡ S .red c +ℤ pos x
@@ -196,6 +210,7 @@ pub record Fresh (S : Col) : Type 0 where
   pub ref : (n : ℕ) → S .ref n ≡ 0
   pub a : (n : ℕ) → S .a n ≡ 0
   pub d : (n : ℕ) → S .d n ≡ 0
+  pub r : (n : ℕ) → S .r n ≡ 0
   pub out : (k n : ℕ) → S .out k n ≡ pos 0
   pub red : (n : ℕ) → S .red n ≡ pos 0
 

@@ -7,7 +7,7 @@ pub const ROW_WORDS: usize = 16;
 
 pub const USED_WORDS: usize = 12;
 
-pub const PROFILES: usize = 4;
+pub const PROFILES: usize = 5;
 
 // Greatest values. The year 2099 ends with END_HOUR and END_SECOND, and limits end with END_LIMIT.
 pub const MOST_ROWS: u32 = 1024;
@@ -97,6 +97,8 @@ pub const GRANTED_PART: usize = 1;
 pub const AVAILABLE_PART: usize = 2;
 
 pub const DISPLACED_PART: usize = 3;
+
+pub const REDUCED_PART: usize = 4;
 
 // Statuses.
 pub const QUEUED: u32 = 1;

@@ -47,7 +47,7 @@ use Rattle.megawatts.proofs.Laws.{own-words, span-length}
 use Rattle.megawatts.proofs.Named.{placed-at}
 use Rattle.submission.proofs.Laws.{submit-over}
 use Rattle.provider.specs.Waiting.{Waiting}
-use Rattle.provider.proofs.Laws.{over-approve, over-reduce, over-clock, approve-waiting, lapse-waiting}
+use Rattle.provider.proofs.Laws.{over-approve, over-clock, approve-waiting, lapse-waiting}
 use Rattle.ledger.specs.Moving.{SmallProfile, Passes}
 
 -- ---- the checks that the kind's own function asks for
@@ -106,6 +106,10 @@ module _ (H : ℕ) (l w : List ℕ) (a : Action) where
   unfolding kindAfter
   customer-over e h = h ∙ ap (λ (k : ℕ). carriesOver H (afterBy k)) (sym e)
 
+  pub reduce-over : {b : Bool} → a .kind ≡ 5 → b ≡ carriesOver H (reduceAfter H l w a) → b ≡ carriesOver H (kindAfter H l w a)
+  unfolding kindAfter
+  reduce-over e h = h ∙ ap (λ (k : ℕ). carriesOver H (afterBy k)) (sym e)
+
   pub lapse-over : {b : Bool} → a .kind ≡ 6 → b ≡ carriesOver H (lapseAfter H l a) → b ≡ carriesOver H (kindAfter H l w a)
   unfolding kindAfter
   lapse-over e h = h ∙ ap (λ (k : ℕ). carriesOver H (afterBy k)) (sym e)
@@ -123,11 +127,15 @@ module _ (H : ℕ) (l w : List ℕ) (a : Action) where
     unfolding kindAfter
     customer-last e = ap (λ (k : ℕ). carriesOver H (afterBy k)) (sym e) ∙ z
 
+    pub reduce-last : a .kind ≡ 5 → carriesOver H (reduceAfter H l w a) ≡ false
+    unfolding kindAfter
+    reduce-last e = ap (λ (k : ℕ). carriesOver H (afterBy k)) (sym e) ∙ z
+
     pub lapse-last : a .kind ≡ 6 → carriesOver H (lapseAfter H l a) ≡ false
     unfolding kindAfter
     lapse-last e = ap (λ (k : ℕ). carriesOver H (afterBy k)) (sym e) ∙ z
 
-pub ruleset kinds = (needs, head-fits, submit-none, seller-none, customer-none, approve-none, reduce-none, lapse-none, seller-last, customer-last, lapse-last)
+pub ruleset kinds = (needs, head-fits, submit-none, seller-none, customer-none, approve-none, reduce-none, lapse-none, seller-last, customer-last, reduce-last, lapse-last)
 
 -- ---- of two kinds the one that is meant
 one-of : {P : Type 0} (k j n m : ℕ) → (k ≡ j → n ≡ 0 → P) → (k ≢ j → m ≡ 0 → P) → pick (eqb k j) n m ≡ 0 → P
@@ -148,16 +156,16 @@ over-of H k j n m x y p q z = go (eqb k j) refl z
 over-post : {l : List ℕ} {R H : ℕ} → SoundAt l R H → carriesOver H l ≡ false
 over-post {l} s = subst (λ (x : ℕ). carriesOver x l ≡ false) (sym (s .hours)) (over-posting (s .sound))
 
--- only seller status, customer status and lapse may carry a word over 100,000
-pub over-none : {l : List ℕ} {R H : ℕ} → SoundAt l R H → (w : List ℕ) (a : Action) → kindNumber H l w a ≡ 0 → a .kind ≢ 2 → a .kind ≢ 3 → a .kind ≢ 6 → false ≡ carriesOver H (kindAfter H l w a)
+-- only seller status, customer status, reduce and lapse may carry a word over 100,000
+pub over-none : {l : List ℕ} {R H : ℕ} → SoundAt l R H → (w : List ℕ) (a : Action) → kindNumber H l w a ≡ 0 → a .kind ≢ 2 → a .kind ≢ 3 → a .kind ≢ 5 → a .kind ≢ 6 → false ≡ carriesOver H (kindAfter H l w a)
 unfolding kindNumber kindAfter
-over-none {l} {R} {H} s w a z no2 no3 no6 =
+over-none {l} {R} {H} s w a z no2 no3 no5 no6 =
     sym
     (over-of H (a .kind) 1 _ _ _ _ (λ _ e. submit-over s w a e)
     (over-of H (a .kind) 2 _ _ _ _ (λ q _. absurd (no2 q))
     (over-of H (a .kind) 3 _ _ _ _ (λ q _. absurd (no3 q))
     (over-of H (a .kind) 4 _ _ _ _ (λ _ e. over-approve s a e)
-    (over-of H (a .kind) 5 _ _ _ _ (λ _ e. over-reduce s w a e)
+    (over-of H (a .kind) 5 _ _ _ _ (λ q _. absurd (no5 q))
     (over-of H (a .kind) 6 _ _ _ _ (λ q _. absurd (no6 q))
     (over-of H (a .kind) 7 _ _ _ _ (λ _ _. over-clock s a) (λ _. over-post s))))))) z)
 

@@ -24,6 +24,7 @@ use provider::lapse::lapse_over;
 use provider::post::post_number;
 use provider::post::post_uses;
 use provider::reduce::reduce_number;
+use provider::reduce::reduce_over;
 use provider::waiting::waiting_uses;
 use rules::Action;
 use seller::number::seller_number;
@@ -125,7 +126,7 @@ fn kind_uses(
     false
 }
 
-// Whether the action would carry an available or displaced word over 100,000.
+// Whether the action would carry an available, displaced or reduced word over 100,000.
 fn kind_over(l: &[u32], words: &[u32], rows: usize, hours: usize, a: Action) -> bool
     requires { ⌜ SoundAt (now l) rows hours ⌝ }
     requires { ⌜ kindNumber hours (now l) (now words) a ≡ 0 ⌝ }
@@ -137,6 +138,9 @@ fn kind_over(l: &[u32], words: &[u32], rows: usize, hours: usize, a: Action) -> 
     }
     if kind == CUSTOMER_STATUS {
         return customer_over(l, words, rows, hours, a);
+    }
+    if kind == REDUCE {
+        return reduce_over(l, words, rows, hours, a);
     }
     if kind == LAPSE {
         return lapse_over(l, rows, hours, a);

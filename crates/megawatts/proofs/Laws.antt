@@ -12,19 +12,20 @@ use borrow.Author.Tests.{not-false, le-leb}
 use Rattle.words.specs.Lists.{part, splice, zip2, covered, roomy, mostWord, Apart}
 use Rattle.words.proofs.Laws.{lt-or-le, lent, part-length, all-below, roomy-at, zip-length}
 use Rattle.rules.specs.Pick.{pick}
-use Rattle.rules.specs.Numbers.{profiles, mostMegawatts, availablePart, displacedPart, requestedPart, grantedPart, grantedGiven, RELINQUISH}
-use Rattle.rules.specs.Layout.{rows, hours, rowBase, rowSize, row, onRow, reqtype, start, stop, relatedRow, has, hourAt, hoursOf, spanHours, span, requested, granted, available, displaced, setHours, addHours, Sized}
+use Rattle.rules.specs.Numbers.{rowWords, profiles, mostHours, mostMegawatts, availablePart, displacedPart, reducedPart, requestedPart, grantedPart, grantedGiven, RELINQUISH}
+use Rattle.rules.specs.Layout.{rows, hours, rowBase, rowSize, row, onRow, reqtype, start, stop, relatedRow, has, hourAt, hoursOf, spanHours, span, requested, granted, available, displaced, reduced, setHours, addHours, lessHours, Sized}
 use Rattle.rules.specs.Sound.{original}
 use Rattle.rules.specs.Megawatts.{inForce, takeFrom, returnsTo, giveBack}
 use Rattle.rules.proofs.Types.{derived-least}
 use Rattle.rules.proofs.Rows.{row-length, row-part, row-apart, on-other, on-splice}
 use Rattle.rules.proofs.Seen.{Room, hour-in, less-length, add-length}
-use Rattle.rules.proofs.Spans.{Spanned, span-length as long}
+use Rattle.rules.proofs.Spans.{Spanned, span-length as long, less-word, less-other}
 use Rattle.rules.proofs.Writes.{returns-profile}
 use Rattle.rules.proofs.SoundFacts.{SoundWords, SoundRelation}
 use Rattle.rules.proofs.Formed.{FormedHours, formed-sized}
-use Rattle.rules.proofs.Over.{full, overAnnulling, overDisplacing}
-use Rattle.layout.specs.Places.{HoursAt}
+use Rattle.rules.proofs.Over.{full, overAnnulling, overDisplacing, overReducing}
+use Rattle.layout.specs.Places.{RowAt, HoursAt}
+use Rattle.layout.proofs.Lent.{row-lent, row-lent-length}
 use Rattle.megawatts.specs.Placed.{Placed, HoursIn}
 
 -- ---- tests
@@ -113,6 +114,15 @@ module _ {l : List ℕ} {R H n q s count a : ℕ} (z : Sized l R H) (lt : n < R)
 
   pub hours-lent : take (a + count - a) (drop a l) ≡ hoursOf H q s count (row H l n)
   hours-lent = lent l a (rowBase H n + hourAt H q s) count (at .is) (at .fits) ∙ hours-there
+
+-- a row in use that is lent: its length, and its span in the ledger's hours
+pub lent-spanned : {l : List ℕ} {R H n a : ℕ} → Placed l R H n → RowAt R H n a →
+    let r = take (a + rowSize H - a) (drop a l) in ((length r ≡ rowSize H) × (H ≤ mostHours)) × ((start r < stop r) × (stop r ≤ H))
+lent-spanned {l} {R} {H} {n} {a} p at =
+    let e = row-lent (sized p) at in
+    let f : getD (take (a + rowSize H - a) (drop a l)) 5 0 ≡ start (row H l n) = ap (λ (r : List ℕ). getD r 5 0) e in
+    let g : getD (take (a + rowSize H - a) (drop a l)) 6 0 ≡ stop (row H l n) = ap (λ (r : List ℕ). getD r 6 0) e in
+    ((row-lent-length (sized p) at, sized p .hours), (omega (arith, f, g, own-words p .starts), omega (arith, g, own-words p .stops)))
 
 -- the span's hours of profile q of a row in use
 module _ {l : List ℕ} {R H n q a : ℕ} (p : Placed l R H n) (qlt : q < profiles) (at : HoursIn l H n q (start (row H l n)) (spanHours (row H l n)) a) where
@@ -236,17 +246,50 @@ module _ {H a b : ℕ} (r : List ℕ) (long : length r ≡ rowSize H) (at : Hour
       ∙ ap (λ (x : ℕ). splice r x (zip2 _+_ (part r x (spanHours r)) (available H r))) (at .is)
       ∙ ap (λ (k : ℕ). splice r (hourAt H displacedPart (start r)) (zip2 _+_ (part r (hourAt H displacedPart (start r)) k) (available H r))) (sym e)
 
--- ---- annulling and reducing
+-- ---- annulling
 pub not-over-annulled : (H : ℕ) (l : List ℕ) (n : ℕ) → original (reqtype (row H l n)) ≡ false → overAnnulling H l n ≡ false → full H (start (row H l n)) (granted H (row H l n)) (row H l (relatedRow H l n)) ≡ false
 unfolding overAnnulling
 not-over-annulled H l n o e = and-rest _ _ (ap not o) e
 
-pub covered-own : (H : ℕ) (r mw : List ℕ) {s : ℕ} → s ≡ start r → length mw ≡ spanHours r → covered mw (available H r) ≡ true → covered mw (hoursOf H availablePart s (length mw) r) ≡ true
+-- ---- reducing
+-- count hours of profile p from hour s on, where these are the row's span
+pub span-hours : (H p : ℕ) (r : List ℕ) {s count : ℕ} → s ≡ start r → count ≡ spanHours r → hoursOf H p s count r ≡ span H p r
 unfolding span
-covered-own H r mw {s} es e c =
-    ap (λ (x : ℕ). covered mw (hoursOf H availablePart x (length mw) r)) es
-    ∙ ap (λ (k : ℕ). covered mw (hoursOf H availablePart (start r) k r)) e
-    ∙ c
+span-hours H p r {s} {count} es ec = ap (λ (x : ℕ). hoursOf H p x count r) es ∙ ap (λ (k : ℕ). hoursOf H p (start r) k r) ec
+
+-- row r, by a profile with a word for each hour of its span
+module _ {H : ℕ} (r mw : List ℕ) (long : length r ≡ rowSize H) (starts : start r < stop r) (stops : stop r ≤ H) (e : length mw ≡ spanHours r) where
+  fits : start r + length mw ≤ H
+  fits = omega (arith, e, starts, stops)
+
+  pub reduce-room : Room H (start r) mw r
+  reduce-room = record { long = long; fits = fits }
+
+  pub reduce-covered : covered mw (available H r) ≡ true → covered mw (hoursOf H availablePart (start r) (length mw) r) ≡ true
+  reduce-covered c = ap (λ (x : List ℕ). covered mw x) (span-hours H availablePart r refl e) ∙ c
+
+  pub reduce-over : not (roomy mostMegawatts mw (hoursOf H reducedPart (start r) (length mw) r)) ≡ overReducing H mw r
+  unfolding overReducing
+  reduce-over = ap (λ (x : List ℕ). not (roomy mostMegawatts mw x)) (span-hours H reducedPart r refl e)
+
+  -- what is taken from available leaves the span and reduced
+  reduce-spanned : Spanned H r
+  reduce-spanned = record { long = long; starts = omega (arith, starts); stops = stops }
+
+  taken-word : (k : ℕ) → k < rowWords → getD (lessHours H availablePart (start r) mw r) k 0 ≡ getD r k 0
+  taken-word = less-word reduce-spanned availablePart (start r) mw (lit< tt) fits
+
+  pub taken-room : Room H (start r) mw (lessHours H availablePart (start r) mw r)
+  taken-room = record { long = less-length reduce-room (lit< tt); fits = fits }
+
+  pub taken-roomy : overReducing H mw r ≡ false → roomy mostWord mw (hoursOf H reducedPart (start r) (length mw) (lessHours H availablePart (start r) mw r)) ≡ true
+  unfolding overReducing
+  taken-roomy o =
+      let ec : length mw ≡ spanHours (lessHours H availablePart (start r) mw r) = omega (arith, e, taken-word 5 (lit< tt), taken-word 6 (lit< tt)) in
+      ap (λ (x : List ℕ). roomy mostWord mw x)
+      (span-hours H reducedPart (lessHours H availablePart (start r) mw r) (sym (taken-word 5 (lit< tt))) ec
+      ∙ less-other reduce-spanned availablePart (start r) mw (lit< tt) fits reducedPart (lit< tt) (λ z. omega (arith, z)))
+      ∙ roomy-word mw (reduced H r) (not-false _ o)
 
 -- for what a function that is placed asks of the functions that it calls
 pub ruleset placed = (needs, sized, in-rows)

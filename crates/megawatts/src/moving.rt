@@ -6,12 +6,11 @@ ghost use lib.ListN.{length};
 ghost use Rattle.words.specs.Lists.{covered, equal};
 ghost use Rattle.rules.specs.Numbers.{mostHours};
 ghost use Rattle.rules.specs.Layout.{Sized, row, onRow, rowSize, reqtype, start, stop, spanHours, granted, available};
-ghost use Rattle.rules.specs.Megawatts.{displacedRow, displace as displaces, annulledRow, annul as annuls, reduce as reduces};
-ghost use Rattle.rules.proofs.Over.{overAnnulling, overDisplacing};
+ghost use Rattle.rules.specs.Megawatts.{displacedRow, displace as displaces, annulledRow, annul as annuls, reducedRow, reduce as reduces};
+ghost use Rattle.rules.proofs.Over.{overAnnulling, overDisplacing, overReducing};
 ghost use Rattle.megawatts.specs.Placed.{Placed};
 use crate::giving::full_at;
 use crate::giving::give_granted;
-use crate::giving::take_from;
 use crate::reading::count_of;
 use crate::reading::related_of;
 use crate::reading::span_at;
@@ -24,13 +23,17 @@ use layout::numbers::DISPLACED_PART;
 use layout::numbers::GRANTED_PART;
 use layout::numbers::MOST_MEGAWATTS;
 use layout::numbers::PROFILES;
+use layout::numbers::REDUCED_PART;
 use layout::numbers::REQTYPE;
 use layout::numbers::ROW_WORDS;
 use layout::numbers::START;
 use layout::numbers::STATUS;
 use layout::numbers::STOP;
+use layout::rows::add_hours;
 use layout::rows::clear_hours;
 use layout::rows::hours_at;
+use layout::rows::less_hours;
+use layout::rows::room_hours;
 use layout::rows::row_at;
 use layout::rows::word_at;
 
@@ -135,13 +138,49 @@ pub fn partly_used(l: &[u32], rows: usize, hours: usize, n: usize) -> bool
     !words::all_equal(&l[a..a + count], &l[g..g + count])
 }
 
-// Reducing subtracts a profile from available.
+// Reducing subtracts a profile from available and adds it to reduced.
+
+fn reduce_row(r: &mut [u32], hours: usize, mw: &[u32])
+    requires { ⌜ (length (now r) ≡ rowSize hours) × (hours ≤ mostHours) ⌝ }
+    requires { ⌜ (start (now r) < stop (now r)) × (stop (now r) ≤ hours) ⌝ }
+    requires { ⌜ length (now mw) ≡ spanHours (now r) ⌝ }
+    requires { ⌜ covered (now mw) (available hours (now r)) ≡ true ⌝ }
+    requires { ⌜ overReducing hours (now mw) (now r) ≡ false ⌝ }
+    ensures { λ _. ⌜ now (r .exit) ≡ reducedRow hours (start (now (r .entry))) (now (mw .entry)) (now (r .entry)) ⌝ }
+{
+    let start = r[START] as usize;
+    less_hours(r, hours, AVAILABLE_PART, start, mw);
+    add_hours(r, hours, REDUCED_PART, start, mw);
+}
+
 pub fn reduce(l: &mut [u32], rows: usize, hours: usize, n: usize, mw: &[u32])
     requires { ⌜ Placed (now l) rows hours n ⌝ }
     requires { ⌜ length (now mw) ≡ spanHours (row hours (now l) n) ⌝ }
     requires { ⌜ covered (now mw) (available hours (row hours (now l) n)) ≡ true ⌝ }
+    requires { ⌜ overReducing hours (now mw) (row hours (now l) n) ≡ false ⌝ }
     ensures { λ _. ⌜ now (l .exit) ≡ reduces hours n (now (mw .entry)) (now (l .entry)) ⌝ }
 {
-    let start = start_of(&l[..], rows, hours, n);
-    take_from(l, rows, hours, n, start, mw);
+    let at = row_at(rows, hours, n);
+    let size = ROW_WORDS + PROFILES * hours;
+    reduce_row(&mut l[at..at + size], hours, mw);
+}
+
+fn over_reducing_row(r: &[u32], hours: usize, mw: &[u32]) -> bool
+    requires { ⌜ (length (now r) ≡ rowSize hours) × (hours ≤ mostHours) ⌝ }
+    requires { ⌜ (start (now r) < stop (now r)) × (stop (now r) ≤ hours) ⌝ }
+    requires { ⌜ length (now mw) ≡ spanHours (now r) ⌝ }
+    ensures { λ b. ⌜ b ≡ overReducing hours (now (mw .entry)) (now (r .entry)) ⌝ }
+{
+    let start = r[START] as usize;
+    !room_hours(r, hours, REDUCED_PART, start, mw)
+}
+
+pub fn over_reducing(l: &[u32], rows: usize, hours: usize, n: usize, mw: &[u32]) -> bool
+    requires { ⌜ Placed (now l) rows hours n ⌝ }
+    requires { ⌜ length (now mw) ≡ spanHours (row hours (now l) n) ⌝ }
+    ensures { λ b. ⌜ b ≡ overReducing hours (now (mw .entry)) (row hours (now (l .entry)) n) ⌝ }
+{
+    let at = row_at(rows, hours, n);
+    let size = ROW_WORDS + PROFILES * hours;
+    over_reducing_row(&l[at..at + size], hours, mw)
 }

@@ -8,10 +8,10 @@ use native.Mathlib.Omega.{arith}
 use lib.Dec.{lit<}
 use lib.ListN.{length, set}
 use borrow.Author.Tests.{le-leb, ne-eqb}
-use Rattle.words.specs.Lists.{splice, covered}
+use Rattle.words.specs.Lists.{splice}
 use Rattle.rules.specs.Pick.{pick, _gives_else_}
-use Rattle.rules.specs.Numbers.{requestedPart, grantedPart, availablePart, grantedGiven, approved, ACCEPTED, CR-ACCEPTED, RETRACTED, RELINQUISH}
-use Rattle.rules.specs.Layout.{rows, hours, used, rowBase, row, onRow, reqtype, start, flags, flagged, has, raise, setStatus, spanHours, hoursOf, span, requested, granted, available, issued}
+use Rattle.rules.specs.Numbers.{requestedPart, grantedPart, grantedGiven, approved, ACCEPTED, CR-ACCEPTED, RETRACTED, RELINQUISH}
+use Rattle.rules.specs.Layout.{rows, hours, used, rowBase, row, onRow, reqtype, flags, flagged, has, raise, setStatus, requested, granted, issued}
 use Rattle.rules.specs.Megawatts.{inForce, carriesOver}
 use Rattle.rules.specs.Confirming.{confirm, short}
 use Rattle.rules.specs.Checks.{named, namedRow, profile, noReference, notProvider, waitsAt}
@@ -31,7 +31,7 @@ use Rattle.rules.proofs.Unmoved.{Unmoved, unmoved-turned}
 use Rattle.rules.proofs.Passed.{approve-passed, reduce-passed, lapse-passed, confirm-passed, profile-length}
 use Rattle.rules.proofs.Kept.{Next, same-self, same-approved, next-own, fitting-force}
 use Rattle.rules.proofs.Before as B
-use Rattle.rules.proofs.Over.{overConfirming}
+use Rattle.rules.proofs.Over.{overConfirming, overReducing}
 use Rattle.rules.proofs.Over as O
 use Rattle.layout.specs.SoundAt.{SoundAt}
 use Rattle.megawatts.specs.Placed.{Placed}
@@ -52,15 +52,13 @@ then-rest {r} {q} l a v m p e k f h = skip-call r (noReference l a) v 4 _ p e (s
 pub at-row : {b : Bool} {n m : ℕ} (H : ℕ) (l : List ℕ) (f : List ℕ → Bool) → n ≡ m → b ≡ f (row H l n) → b ≡ f (row H l m)
 at-row H l f e h = h ∙ ap (λ (k : ℕ). f (row H l k)) e
 
+-- and what is said of it and of a profile v, of u, which that is
+pub at-profile : {A : Type 0} {v u : List ℕ} {n m : ℕ} (H : ℕ) (l : List ℕ) (f : List ℕ → List ℕ → A) → v ≡ u → n ≡ m → f v (row H l n) ≡ f u (row H l m)
+at-profile {u = u} {n = n} H l f d e = ap (λ (x : List ℕ). f x (row H l n)) d ∙ ap (λ (k : ℕ). f u (row H l k)) e
+
 -- the row of an issued reference is in use
 pub named-used : {l : List ℕ} {R H : ℕ} → SoundAt l R H → (a : Action) → (1 ≤ a .reference) × (a .reference ≤ used l) → named a < used l
 named-used s a e = omega (arith, e)
-
--- ---- a profile against available of a row
-pub covers-own : (H : ℕ) (r mw : List ℕ) {s : ℕ} → s ≡ start r → length mw ≡ spanHours r → covered mw (hoursOf H availablePart s (length mw) r) ≡ covered mw (available H r)
-unfolding span
-covers-own H r mw {s} es e =
-    ap (λ (x : ℕ). covered mw (hoursOf H availablePart x (length mw) r)) es ∙ ap (λ (k : ℕ). covered mw (hoursOf H availablePart (start r) k r)) e
 
 -- ---- a row is marked approved
 -- its profile in force stays
@@ -159,12 +157,11 @@ marks-over {l} s {n} lt =
     B.over-then-confirming s lt (raise approved) (O.own-approved s lt) (inForce (hours l) (row (hours l) l n)) (f .counted) (f .most)
 
 module _ {l : List ℕ} {R H : ℕ} (s : SoundAt l R H) where
-  -- a reduction and the clock add to no word
-  pub over-reduce : (w : List ℕ) (a : Action) → reduceNumber H l w a ≡ 0 → carriesOver H (reduceAfter H l w a) ≡ false
+  pub over-reduce : (w : List ℕ) (a : Action) → reduceNumber H l w a ≡ 0 → carriesOver H (reduceAfter H l w a) ≡ overReducing H (profile w a) (namedRow H l a)
   unfolding reduceAfter
   over-reduce w a e =
       let p = reduce-passed (hours l) l w a (subst (λ (x : ℕ). reduceNumber x l w a ≡ 0) (s .hours) e) in
-      subst (λ (x : ℕ). carriesOver x (reduceAfter x l w a) ≡ false) (sym (s .hours))
+      subst (λ (x : ℕ). carriesOver x (reduceAfter x l w a) ≡ overReducing x (profile w a) (namedRow x l a)) (sym (s .hours))
       (O.over-reducing (s .sound) (named-used s a (p .reference)) (profile w a) (profile-length (p .profile)))
 
   pub over-clock : (a : Action) → carriesOver H (clockAfter l a) ≡ false

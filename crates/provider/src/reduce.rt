@@ -2,6 +2,7 @@
 ghost use mathlib.Core.Path.{_≡_};
 ghost use mathlib.Core.Bool.{false};
 ghost use Rattle.rules.specs.Layout.{row, spanHours};
+ghost use Rattle.rules.specs.Megawatts.{carriesOver};
 ghost use Rattle.rules.specs.Checks.{badProfile};
 ghost use Rattle.rules.specs.Reduce.{notReducible, reducesTooMuch, reduceNumber, reduceAfter};
 ghost use Rattle.layout.specs.SoundAt.{SoundAt};
@@ -16,6 +17,7 @@ use layout::numbers::WRONG_PARTY;
 use layout::numbers::WRONG_PROFILE;
 use layout::rows::word_at;
 use megawatts::giving::covers_at;
+use megawatts::moving::over_reducing;
 use megawatts::reading::is_confirmed;
 use megawatts::reading::start_of;
 use rules::Action;
@@ -79,10 +81,22 @@ pub fn reduce_number(l: &[u32], words: &[u32], rows: usize, hours: usize, a: Act
     0
 }
 
-// A reduction carries no word over 100,000: law over-reduce of proofs/Laws.
+// The reduction would carry a reduced word over 100,000.
+pub fn reduce_over(l: &[u32], words: &[u32], rows: usize, hours: usize, a: Action) -> bool
+    requires { ⌜ SoundAt (now l) rows hours ⌝ }
+    requires { ⌜ reduceNumber hours (now l) (now words) a ≡ 0 ⌝ }
+    ensures { λ b. ⌜ b ≡ carriesOver hours (reduceAfter hours (now (l .entry)) (now (words .entry)) a) ⌝ }
+{
+    let n = row_named(l, rows, hours, a);
+    let from = a.offset as usize;
+    let count = a.length as usize;
+    over_reducing(l, rows, hours, n, &words[from..from + count])
+}
+
 pub fn reduce(l: &mut [u32], words: &[u32], rows: usize, hours: usize, a: Action)
     requires { ⌜ SoundAt (now l) rows hours ⌝ }
     requires { ⌜ reduceNumber hours (now l) (now words) a ≡ 0 ⌝ }
+    requires { ⌜ carriesOver hours (reduceAfter hours (now l) (now words) a) ≡ false ⌝ }
     ensures { λ _. ⌜ now (l .exit) ≡ reduceAfter hours (now (l .entry)) (now (words .entry)) a ⌝ }
 {
     let n = row_named(&l[..], rows, hours, a);

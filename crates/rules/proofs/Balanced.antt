@@ -16,11 +16,11 @@ use Rattle.column.specs.Demand as Column
 use Rattle.column.specs.Demand.{Live, up, within, inside, gateℤ, sumℤ}
 use Rattle.column.proofs.Final.{demand3-of}
 use Rattle.rules.specs.Pick.{pick}
-use Rattle.rules.specs.Numbers.{profiles, grantedPart, availablePart, displacedPart, grantedGiven, RELINQUISH}
+use Rattle.rules.specs.Numbers.{profiles, grantedPart, availablePart, displacedPart, reducedPart, grantedGiven, RELINQUISH}
 use Rattle.rules.specs.Layout.{hours, used, rowSize, row, reqtype, status, related, start, stop, has, granted, hourAt, hoursOf, span, standing}
 use Rattle.rules.specs.Sound.{original}
 use Rattle.rules.specs.Tally.{Tally, grantedIn, resoldSum, redirectedSum, transferredSum, relinquishedSum, reducedSum}
-use Rattle.rules.specs.Balance.{rowIn, wordIn, NotNegative, live, descendsWithin, descends, sumTo, holding, SameEntry, Whole, Tree, Balanced}
+use Rattle.rules.specs.Balance.{rowIn, wordIn, NotNegative, live, descendsWithin, descends, sumTo, tallied, stored, holding, SameEntry, Whole, Five, Tree, Balanced}
 use Rattle.rules.proofs.Types.{original-range}
 use Rattle.rules.proofs.Rows.{row-length}
 use Rattle.rules.proofs.Seen.{hour-in, standing-in, standing-off}
@@ -173,53 +173,77 @@ module _ {B : ℕ → ℕ → ℕ} {l : List ℕ} {t : Tally} (G : Good B l t) w
       grants = λ h hlt. granted-is n h lt hlt ∙ sym (ap (λ (r : List ℕ). getD r (hourAt (hours l) grantedPart h) 0) (own n));
     }
 
-    module _ (h : ℕ) (hlt : h < hours l) (on : live (t (suc n) .status) ≡ true) where
-      D : Column.Demand3 (viewOf (hours l) h l t)
-      D = demand3-of (G .good .columns h hlt .shape) (G .good .columns h hlt .inv)
+  module _ (h : ℕ) (hlt : h < hours l) where
+    D : Column.Demand3 (viewOf (hours l) h l t)
+    D = demand3-of (G .good .columns h hlt .shape) (G .good .columns h hlt .inv)
 
+    stored-entry : (n : ℕ) → stored l (suc n) h ≡ tallied t (suc n) h
+    unfolding stored tallied
+    stored-entry n = ap (λ (r : List ℕ). pos (getD r (hourAt (hours l) reducedPart h) 0)) (own n) ∙ sym (D .stored n)
+
+    five-entry : (n : ℕ) → Five t (suc n) h
+    five-entry n = record {
+      resold = not-negative (t (suc n) .sum resoldSum h) (D .five n .resold);
+      redirected = not-negative (t (suc n) .sum redirectedSum h) (D .five n .redirected);
+      transferred = not-negative (t (suc n) .sum transferredSum h) (D .five n .transferred);
+      relinquished = not-negative (t (suc n) .sum relinquishedSum h) (D .five n .relinquished);
+      reduced = not-negative (t (suc n) .sum reducedSum h) (D .five n .reduced);
+    }
+
+    -- what row r has available and displaced; that with the sums of entry n, where z is reduced
+    abbrev unreduced : List ℕ → ℤ
+    unreduced r = pos (getD r (hourAt (hours l) availablePart h) 0) +ℤ pos (getD r (hourAt (hours l) displacedPart h) 0)
+
+    abbrev with-sums : ℕ → ℤ → ℤ → ℤ
+    with-sums n x z = x +ℤ t (suc n) .sum resoldSum h +ℤ t (suc n) .sum redirectedSum h +ℤ t (suc n) .sum transferredSum h +ℤ t (suc n) .sum relinquishedSum h +ℤ z
+
+    module _ (n : ℕ) (lt : n < used l) (on : live (t (suc n) .status) ≡ true) where
       is-live : Live (status (row (hours l) l n))
-      is-live = subst Live (E .same-status) (live-is (t (suc n) .status) on)
+      is-live = subst Live (E n lt .same-status) (live-is (t (suc n) .status) on)
 
-      whole-entry : t (suc n) .reqtype ≢ RELINQUISH → Whole l t (suc n) h
-      whole-entry ne =
-          let W : Column.Whole (viewOf (hours l) h l t) n = D .whole n is-live (λ q. ne (E .same-type ∙ q)) in
-          record {
-            balances = ap pos (granted-is n h lt hlt) ∙ W .sum ∙ ap (λ (r : List ℕ). pos (getD r (hourAt (hours l) availablePart h) 0) +ℤ pos (getD r (hourAt (hours l) displacedPart h) 0) +ℤ t (suc n) .sum resoldSum h +ℤ t (suc n) .sum redirectedSum h +ℤ t (suc n) .sum transferredSum h +ℤ t (suc n) .sum relinquishedSum h +ℤ t (suc n) .sum reducedSum h) (sym (own n));
-            resold = not-negative (t (suc n) .sum resoldSum h) (W .resold);
-            redirected = not-negative (t (suc n) .sum redirectedSum h) (W .redirected);
-            transferred = not-negative (t (suc n) .sum transferredSum h) (W .transferred);
-            relinquished = not-negative (t (suc n) .sum relinquishedSum h) (W .relinquished);
-            reduced = not-negative (t (suc n) .sum reducedSum h) (W .reduced);
-          }
+      -- with what the tally has as reduced, or any that is the same
+      module _ (reduced : ℕ → ℕ → ℤ) (same : (m : ℕ) → reduced (suc m) h ≡ tallied t (suc m) h) where
+        whole-entry : t (suc n) .reqtype ≢ RELINQUISH → Whole l t reduced (suc n) h
+        unfolding Whole tallied
+        whole-entry ne =
+            ap pos (granted-is n h lt hlt)
+            ∙ D .whole n is-live (λ q. ne (E n lt .same-type ∙ q))
+            ∙ sym (ap (λ (r : List ℕ). with-sums n (unreduced r) (reduced (suc n) h)) (own n) ∙ ap (with-sums n (unreduced (row (hours l) l n))) (same n))
 
-      held-in : (m : ℕ) → m < used l → holding l t h (suc m) ≡ pos (getD (row (hours l) l m) (hourAt (hours l) availablePart h) 0) +ℤ pos (getD (row (hours l) l m) (hourAt (hours l) displacedPart h) 0) +ℤ t (suc m) .sum reducedSum h
-      unfolding holding
-      held-in m mlt = ap (λ (r : List ℕ). pos (getD r (hourAt (hours l) availablePart h) 0) +ℤ pos (getD r (hourAt (hours l) displacedPart h) 0) +ℤ t (suc m) .sum reducedSum h) (own m)
+        held-in : (m : ℕ) → m < used l → holding l reduced h (suc m) ≡ unreduced (row (hours l) l m) +ℤ t (suc m) .sum reducedSum h
+        unfolding holding tallied
+        held-in m mlt = ap (λ (r : List ℕ). unreduced r +ℤ reduced (suc m) h) (own m) ∙ ap (λ (z : ℤ). unreduced (row (hours l) l m) +ℤ z) (same m)
 
-      tree-entry : original (t (suc n) .reqtype) ≡ true → Tree l t (suc n) h
-      unfolding Tree descends
-      tree-entry o =
-          let ty : (reqtype (row (hours l) l n) ≡ 1) ⊎ (reqtype (row (hours l) l n) ≡ 2) = original-is _ (ap original (sym (E .same-type)) ∙ o) in
-          ap pos (granted-is n h lt hlt)
-          ∙ D .tree n is-live ty
-          ∙ sym (sum-rows (used l) _ _ (λ m mlt.
-          gate-pick (descendsWithin (suc (suc m)) t (suc n) (suc m)) (holding l t h (suc m))
-          ∙ ap (λ (b : Bool). gateℤ b (holding l t h (suc m))) (deeper m mlt)
-          ∙ ap (gateℤ (inside (λ i. related (row (hours l) l i)) n m)) (held-in m mlt)))
-        where
-          relates : (i : ℕ) → i < used l → t (suc i) .related ≡ related (row (hours l) l i)
-          relates i ilt = G .good .entries i ilt .same-related
+        tree-entry : original (t (suc n) .reqtype) ≡ true → Tree l t reduced (suc n) h
+        unfolding Tree descends
+        tree-entry o =
+            let ty : (reqtype (row (hours l) l n) ≡ 1) ⊎ (reqtype (row (hours l) l n) ≡ 2) = original-is _ (ap original (sym (E n lt .same-type)) ∙ o) in
+            ap pos (granted-is n h lt hlt)
+            ∙ D .tree n is-live ty
+            ∙ sym (sum-rows (used l) _ _ (λ m mlt.
+            gate-pick (descendsWithin (suc (suc m)) t (suc n) (suc m)) (holding l reduced h (suc m))
+            ∙ ap (λ (b : Bool). gateℤ b (holding l reduced h (suc m))) (deeper m mlt)
+            ∙ ap (gateℤ (inside (λ i. related (row (hours l) l i)) n m)) (held-in m mlt)))
+          where
+            relates : (i : ℕ) → i < used l → t (suc i) .related ≡ related (row (hours l) l i)
+            relates i ilt = G .good .entries i ilt .same-related
 
-          deeper : (m : ℕ) → m < used l → descendsWithin (suc (suc m)) t (suc n) (suc m) ≡ inside (λ i. related (row (hours l) l i)) n m
-          deeper m mlt =
-              enough t (λ i. related (row (hours l) l i)) (used l) n relates (G .good .columns h hlt .shape .lower) m mlt
+            deeper : (m : ℕ) → m < used l → descendsWithin (suc (suc m)) t (suc n) (suc m) ≡ inside (λ i. related (row (hours l) l i)) n m
+            deeper m mlt =
+                enough t (λ i. related (row (hours l) l i)) (used l) n relates (G .good .columns h hlt .shape .lower) m mlt
 
   pub balanced : Balanced l t
   balanced = record {
     entries = λ r low high. go r low high;
     others = G .good .others;
-    whole = λ r h low high hlt on ne. by-row (λ r. live (t r .status) ≡ true → t r .reqtype ≢ RELINQUISH → Whole l t r h) (λ n lt on ne. whole-entry n lt h hlt on ne) r low high on ne;
-    trees = λ r h low high hlt on o. by-row (λ r. live (t r .status) ≡ true → original (t r .reqtype) ≡ true → Tree l t r h) (λ n lt on o. tree-entry n lt h hlt on o) r low high on o;
+    reductions = λ r h low high hlt. by-row (λ r. stored l r h ≡ tallied t r h) (λ n lt. stored-entry h hlt n) r low high;
+    fives = λ r h low high hlt. by-row (λ r. Five t r h) (λ n lt. five-entry h hlt n) r low high;
+    whole = λ r h low high hlt on ne.
+        by-row (λ r. live (t r .status) ≡ true → t r .reqtype ≢ RELINQUISH → Whole l t (tallied t) r h × Whole l t (stored l) r h)
+        (λ n lt on ne. (whole-entry h hlt n lt on (tallied t) (λ m. refl) ne, whole-entry h hlt n lt on (stored l) (stored-entry h hlt) ne)) r low high on ne;
+    trees = λ r h low high hlt on o.
+        by-row (λ r. live (t r .status) ≡ true → original (t r .reqtype) ≡ true → Tree l t (tallied t) r h × Tree l t (stored l) r h)
+        (λ n lt on o. (tree-entry h hlt n lt on (tallied t) (λ m. refl) o, tree-entry h hlt n lt on (stored l) (stored-entry h hlt) o)) r low high on o;
   }
     where
       by-row : (P : ℕ → Type 0) → ((n : ℕ) → n < used l → P (suc n)) → (r : ℕ) → 1 ≤ r → r ≤ used l → P r

@@ -5,13 +5,13 @@ use mathlib.Core.List.{List}
 use Prim.Native.Nat.{ℕ, suc, _+_, _-_, _*_, _≤_, _<_}
 use native.Mathlib.Numerals.{add-one}
 use native.Mathlib.Omega.{arith}
-use lib.Dec.{lit<}
+use lib.Dec.{lit<, lit≤}
 use lib.ListN.{length, getD, drop, length-take, List·getD-eq-default}
 use lib.Seq.{getD-take, getD-drop, getD-set-same, getD-set-other}
 use lib.IntN.{ℤ, pos}
 use Rattle.words.specs.Lists.{splice}
 use Rattle.words.proofs.Laws.{lt-or-le, noughts-at, splice-length, splice-in, splice-after}
-use Rattle.rules.specs.Numbers.{requestedPart, availablePart, displacedPart, NONFIRM-REDIRECT, RELINQUISH}
+use Rattle.rules.specs.Numbers.{requestedPart, availablePart, displacedPart, reducedPart, NONFIRM-REDIRECT, RELINQUISH}
 use Rattle.rules.specs.Layout.{rows, hours, used, rowOf, row, onRow, rowBase, rowSize, reqtype, status, related, path, hourAt, Sized}
 use Rattle.rules.specs.Create.{fresh}
 use Rattle.rules.specs.Checks.{profile}
@@ -33,8 +33,7 @@ record NewRow (H h : ℕ) (a : Action) (r q : List ℕ) : Type 0 where
   type : reqtype q ≡ a .reqtype
   status : status q ≡ 1
   related : related q ≡ a .related
-  available : megawatts H h q availablePart ≡ megawatts H h r availablePart
-  displaced : megawatts H h q displacedPart ≡ megawatts H h r displacedPart
+  hour : (p : ℕ) → availablePart ≤ p → megawatts H h q p ≡ megawatts H h r p
 
 new-row : {H h : ℕ} → h < H → (w : List ℕ) (a : Action) (r : List ℕ) → length r ≡ rowSize H → a .start + length (profile w a) ≤ H → NewRow H h a r (newRow H w a r)
 unfolding newRow newWords
@@ -49,8 +48,7 @@ new-row {H} {h} hlt w a r long fits =
       type = c .type ∙ splice-in r 0 v room 0 (lit< tt);
       status = c .status ∙ splice-in r 0 v room 1 (lit< tt);
       related = c .related ∙ splice-in r 0 v room 4 (lit< tt);
-      available = c .available ∙ splice-after r 0 v room (hourAt H availablePart h) (omega (arith, twelve));
-      displaced = c .displaced ∙ splice-after r 0 v room (hourAt H displacedPart h) (omega (arith, twelve));
+      hour = λ p low. c .hour p low ∙ splice-after r 0 v room (hourAt H p h) (omega (arith, twelve));
     }
 
 -- the action's type and the row that it names as related
@@ -111,8 +109,9 @@ module _ {R H : ℕ} {l : List ℕ} (sized : Sized l R H) (left : used l < R) (w
         path = λ m ne. ap (λ (x : List ℕ). path x) (new-other m ne);
         rest = λ m ne. still H h l l′ out out′ red red′ m (new-other m ne);
         st = ((λ z. omega (arith, z, st′)), (λ z. omega (arith, z, st′)));
-        a = ap (λ (x : List ℕ). megawatts H h x availablePart) new-own ∙ new .available;
-        d = ap (λ (x : List ℕ). megawatts H h x displacedPart) new-own ∙ new .displaced;
+        a = ap (λ (x : List ℕ). megawatts H h x availablePart) new-own ∙ new .hour availablePart (lit≤ tt);
+        d = ap (λ (x : List ℕ). megawatts H h x displacedPart) new-own ∙ new .hour displacedPart (lit≤ tt);
+        r = ap (λ (x : List ℕ). megawatts H h x reducedPart) new-own ∙ new .hour reducedPart (lit≤ tt);
         lower = omega (arith, ref′, e .lower);
         top = λ z. ref′ ∙ e .originals (omega (arith, z, ty′));
         under5 = λ p x y. under-redirect e p (sym ref′ ∙ x) (sym ty′ ∙ y);
@@ -195,6 +194,7 @@ module _ (R H provider window base : ℕ) where
     ref = λ n. fresh-row n 4;
     a = λ n. fresh-row n (hourAt H availablePart h);
     d = λ n. fresh-row n (hourAt H displacedPart h);
+    r = λ n. fresh-row n (hourAt H reducedPart h);
     out = λ k n. refl;
     red = λ n. refl;
   }

@@ -1,4 +1,5 @@
--- The bound of 100,000 on available and displaced words, row by row; the last check of an action asks for it of every used row.
+-- The bound of 100,000 on available, displaced and reduced words, row by row; the last check of an action asks for it
+-- of every used row.
 use mathlib.Core.Path.{_≡_, refl, sym, ap, subst, _∙_}
 use mathlib.Core.Logic.{_≢_, _⊎_, ⊎-elim, inl, inr}
 use mathlib.Core.Bool.{Bool, true, false, _&&_, not}
@@ -11,12 +12,12 @@ use lib.ListN.{length, getD, drop, length-take, List·getD-eq-default}
 use lib.Seq.{getD-take, getD-drop}
 use borrow.Author.Tests.{le-leb, not-false}
 use Rattle.words.specs.Lists.{splice, within, roomy}
-use Rattle.words.proofs.Laws.{lt-or-le, and-left, and-right, all-at, all-below, within-at, within-all, roomy-at, part-at, splice-length, splice-in, splice-after}
+use Rattle.words.proofs.Laws.{lt-or-le, and-left, and-right, all-at, all-below, within-at, within-all, roomy-at, part-at, splice-length, splice-after}
 use Rattle.rules.specs.Pick.{pick}
-use Rattle.rules.specs.Numbers.{profiles, requestedPart, grantedPart, availablePart, displacedPart, mostMegawatts, DISPLACED, ANNULLED}
-use Rattle.rules.specs.Layout.{used, row, rowSize, start, stop, hourAt, hoursOf, spanHours, span, available, displaced, standing}
+use Rattle.rules.specs.Numbers.{profiles, requestedPart, grantedPart, availablePart, displacedPart, reducedPart, mostMegawatts, DISPLACED, ANNULLED}
+use Rattle.rules.specs.Layout.{used, row, rowSize, start, stop, hourAt, hoursOf, spanHours, span, available, displaced, reduced, standing}
 use Rattle.rules.specs.Moves.{isConfirmed}
-use Rattle.rules.specs.Megawatts.{takeFrom, returnsTo, giveBack, displacedRow, annulledRow, carriesOver}
+use Rattle.rules.specs.Megawatts.{takeFrom, returnsTo, giveBack, displacedRow, annulledRow, reducedRow, bearable, carriesOver}
 use Rattle.rules.specs.Confirming.{held, emptied}
 use Rattle.rules.specs.Checks.{profile}
 use Rattle.rules.specs.Submit.{newWords, newRow}
@@ -24,9 +25,9 @@ use Rattle.rules.specs.declared.Action.{Action}
 use Rattle.rules.proofs.Seen.{Room, Seen, at, at-own, at-other, hour-in, seen-self, seen-set, seen-add, seen-clear, standing-in, standing-off, standing-before}
 use Rattle.rules.proofs.Spans.{span-length as long}
 use Rattle.rules.proofs.Unmoved.{Unmoved, unmoved-hours}
-use Rattle.rules.proofs.Writes.{words, megawatts, returns-profile, seen-taken, seen-given, seen-held, seen-emptied}
+use Rattle.rules.proofs.Writes.{words, megawatts, returns-profile, seen-taken, seen-reduced, seen-given, seen-held, seen-emptied}
 
--- the available and displaced words of row r in its span are at most 100,000
+-- the available, displaced and reduced words of row r in its span are at most 100,000
 pub record Bounded (H : ℕ) (r : List ℕ) : Type 0 where
   pub most : (p h : ℕ) → availablePart ≤ p → p < profiles → start r ≤ h → h < stop r → getD r (hourAt H p h) 0 ≤ mostMegawatts
 
@@ -61,26 +62,35 @@ module _ (H p : ℕ) (r : List ℕ) where
       (λ t. omega (arith, word, List·getD-eq-default (span H p r) 0 t))
       (lt-or-le (h - start r) (length (span H p r)))
 
--- available or displaced
-either : (P : ℕ → Type 0) → P availablePart → P displacedPart → (p : ℕ) → availablePart ≤ p → p < profiles → P p
-either P a d p low high = go (ℕ-discrete p availablePart)
+-- available, displaced or reduced
+any-of : (P : ℕ → Type 0) → P availablePart → P displacedPart → P reducedPart → (p : ℕ) → availablePart ≤ p → p < profiles → P p
+any-of P a d c p low high = go (ℕ-discrete p availablePart) (ℕ-discrete p displacedPart)
   where
-    go : Dec (p ≡ availablePart) → P p
-    go (yes e) = subst P (sym e) a
-    go (no n) = let e : displacedPart ≡ p = omega (arith, n, low, high) in subst P e d
+    go : Dec (p ≡ availablePart) → Dec (p ≡ displacedPart) → P p
+    go (yes e) f = subst P (sym e) a
+    go (no n) (yes e) = subst P (sym e) d
+    go (no n) (no m) = let e : reducedPart ≡ p = omega (arith, n, m, low, high) in subst P e c
 
 module _ (H : ℕ) (r : List ℕ) where
-  bounded-row : (within mostMegawatts (available H r) && within mostMegawatts (displaced H r)) ≡ true → Bounded H r
-  bounded-row e = record {
-    most = λ p h low high.
-        either (λ q. start r ≤ h → h < stop r → getD r (hourAt H q h) 0 ≤ mostMegawatts)
-        (span-within H availablePart r (and-left (within mostMegawatts (available H r)) (within mostMegawatts (displaced H r)) e) h) (span-within H displacedPart r (and-right (within mostMegawatts (available H r)) (within mostMegawatts (displaced H r)) e) h) p low high;
-  }
+  bounded-row : bearable H r ≡ true → Bounded H r
+  unfolding bearable
+  bounded-row e =
+      let d = and-right (within mostMegawatts (available H r)) (within mostMegawatts (displaced H r) && within mostMegawatts (reduced H r)) e in
+      record {
+        most = λ p h low high.
+            any-of (λ q. start r ≤ h → h < stop r → getD r (hourAt H q h) 0 ≤ mostMegawatts)
+            (span-within H availablePart r (and-left _ (within mostMegawatts (displaced H r) && within mostMegawatts (reduced H r)) e) h)
+            (span-within H displacedPart r (and-left (within mostMegawatts (displaced H r)) (within mostMegawatts (reduced H r)) d) h)
+            (span-within H reducedPart r (and-right (within mostMegawatts (displaced H r)) (within mostMegawatts (reduced H r)) d) h)
+            p low high;
+      }
 
-  row-bounded : Bounded H r → (within mostMegawatts (available H r) && within mostMegawatts (displaced H r)) ≡ true
+  row-bounded : Bounded H r → bearable H r ≡ true
+  unfolding bearable
   row-bounded b =
-      ap (λ (t : Bool). t && within mostMegawatts (displaced H r)) (within-span H availablePart r (λ h. b .most availablePart h (omega arith) (lit< tt)))
-      ∙ within-span H displacedPart r (λ h. b .most displacedPart h (omega arith) (lit< tt))
+      ap (λ (t : Bool). t && (within mostMegawatts (displaced H r) && within mostMegawatts (reduced H r))) (within-span H availablePart r (λ h. b .most availablePart h (omega arith) (lit< tt)))
+      ∙ ap (λ (t : Bool). t && within mostMegawatts (reduced H r)) (within-span H displacedPart r (λ h. b .most displacedPart h (omega arith) (lit< tt)))
+      ∙ within-span H reducedPart r (λ h. b .most reducedPart h (omega arith) (lit< tt))
 
 module _ (H : ℕ) (l : List ℕ) where
   pub not-carries : AllBounded H l → carriesOver H l ≡ false
@@ -260,6 +270,37 @@ module _ {H : ℕ} {r : List ℕ} (g : Ranged H r) where
         at-most (at (megawatts H h r) availablePart 0) grantedPart (standing (start r) v h) mostMegawatts p (λ o. absurd (omega (arith, o, least)))
         (λ n. at-most (megawatts H h r) availablePart 0 mostMegawatts p (λ o. omega arith) (λ o. b .most p h least most low high))))
 
+    -- the hours of reduced, counted by the row's span or by the profile
+    same-reduced : hoursOf H reducedPart (start r) (length v) r ≡ reduced H r
+    unfolding span
+    same-reduced = ap (λ (k : ℕ). hoursOf H reducedPart (start r) k r) e
+
+    pub reduced-long : length (reducedRow H (start r) v r) ≡ rowSize H
+    reduced-long = seen-reduced in-hours own-room .long
+
+    pub reduced-bounded : Bounded H r → roomy mostMegawatts v (reduced H r) ≡ true → Bounded H (reducedRow H (start r) v r)
+    reduced-bounded b f =
+        let f′ : roomy mostMegawatts v (hoursOf H reducedPart (start r) (length v) r) ≡ true = ap (λ (x : List ℕ). roomy mostMegawatts v x) same-reduced ∙ f in
+        bounded-by g
+        (λ h low high.
+        shown (seen-reduced {h = h} (omega (arith, high, g .stops)) own-room) refl refl
+        (λ p least most.
+        at-most (at (megawatts H h r) availablePart (megawatts H h r availablePart - standing (start r) v h)) reducedPart (megawatts H h r reducedPart + standing (start r) v h) mostMegawatts p
+        (λ o. room-hour own-room reducedPart (lit< tt) f′ h (b .most reducedPart h (omega arith) (lit< tt) low high))
+        (λ o.
+        at-most (megawatts H h r) availablePart (megawatts H h r availablePart - standing (start r) v h) mostMegawatts p
+        (λ i. omega (arith, b .most availablePart h (omega arith) (lit< tt) low high)) (λ i. b .most p h least most low high))))
+
+    pub bounded-reduced : Bounded H (reducedRow H (start r) v r) → roomy mostMegawatts v (reduced H r) ≡ true
+    bounded-reduced b =
+        sym (ap (λ (x : List ℕ). roomy mostMegawatts v x) same-reduced)
+        ∙ hour-room own-room reducedPart (lit< tt)
+        (λ h least below.
+        let high : h < stop r = omega (arith, below, e, g .starts) in
+        let K = seen-reduced {h = h} (omega (arith, high, g .stops)) own-room in
+        let word : getD (reducedRow H (start r) v r) (hourAt H reducedPart h) 0 ≡ megawatts H h r reducedPart + standing (start r) v h = K .hour reducedPart (lit< tt) in
+        omega (arith, word, b .most reducedPart h (omega arith) (lit< tt) (omega (arith, K .field 5 (lit< tt), least)) (omega (arith, K .field 6 (lit< tt), high))))
+
   -- the row's own available
   pub span-length : (p : ℕ) → p < profiles → length (span H p r) ≡ spanHours r
   span-length p plt = long (record { long = g .long; starts = omega (arith, g .starts); stops = g .stops }) p plt
@@ -326,16 +367,12 @@ module _ {H : ℕ} {r : List ℕ} (g : Ranged H r) where
       omega (arith, word, b .most displacedPart h (omega arith) (lit< tt) (omega (arith, K .field 5 (lit< tt), least)) (omega (arith, K .field 6 (lit< tt), high))))
 
 -- ---- a write that moves no megawatts, and a new row
-pub unmoved-bounded : {H : ℕ} {r q : List ℕ} → stop r ≤ H → Unmoved H r q → Bounded H r → Bounded H q
-unmoved-bounded {H} {r} {q} stops k b = record {
+pub unmoved-bounded : {H : ℕ} {r q : List ℕ} → Unmoved H r q → Bounded H r → Bounded H q
+unmoved-bounded {H} {r} {q} k b = record {
   most = λ p h low high least below.
       let least′ : start r ≤ h = omega (arith, k .same-start, least) in
       let below′ : h < stop r = omega (arith, k .same-stop, below) in
-      let lt : h < H = omega (arith, below′, stops) in
-      either (λ p. getD q (hourAt H p h) 0 ≤ mostMegawatts)
-      (omega (arith, k .same-available h lt, b .most availablePart h (omega arith) (lit< tt) least′ below′))
-      (omega (arith, k .same-displaced h lt, b .most displacedPart h (omega arith) (lit< tt) least′ below′))
-      p low high;
+      omega (arith, k .same-hour p h low, b .most p h low high least′ below′);
 }
 
 module _ (H : ℕ) (r : List ℕ) (e : length r ≡ rowSize H) (w : List ℕ) (a : Action) (fits : a .start + length (profile w a) ≤ H) where
@@ -350,15 +387,11 @@ module _ (H : ℕ) (r : List ℕ) (e : length r ≡ rowSize H) (w : List ℕ) (a
   unfolding newRow
   new-unmoved = unmoved-hours (splice-length r 0 (newWords a) fore ∙ e) requestedPart (a .start) (profile w a) (lit< tt) fits
 
-  new-stop : stop (splice r 0 (newWords a)) ≡ a .stop
-  unfolding newWords
-  new-stop = splice-in r 0 (newWords a) fore 6 (omega (arith, twelve))
-
   pub new-long : length (newRow H w a r) ≡ rowSize H
   new-long = new-unmoved .long
 
   -- a row of zeros becomes the new row
-  pub new-bounded : ((k : ℕ) → getD r k 0 ≡ 0) → a .stop ≤ H → Bounded H (newRow H w a r)
-  new-bounded zero stops =
-      unmoved-bounded (omega (arith, new-stop, stops)) new-unmoved
+  pub new-bounded : ((k : ℕ) → getD r k 0 ≡ 0) → Bounded H (newRow H w a r)
+  new-bounded zero =
+      unmoved-bounded new-unmoved
       (record { most = λ p h low high least below. omega (arith, splice-after r 0 (newWords a) fore (hourAt H p h) (omega (arith, twelve)), zero (hourAt H p h)) })

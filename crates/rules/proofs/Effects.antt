@@ -13,11 +13,11 @@ use lib.Seq.{getD-set-same, getD-set-other}
 use Rattle.words.specs.Lists.{splice, zip2}
 use Rattle.words.proofs.Laws.{lt-or-le, zip-length, part-length, splice-length, splice-before}
 use Rattle.rules.specs.Pick.{pick}
-use Rattle.rules.specs.Numbers.{headWords, rowWords, profiles, requestedPart, grantedPart, availablePart, displacedPart, RELINQUISH}
+use Rattle.rules.specs.Numbers.{headWords, rowWords, profiles, requestedPart, grantedPart, availablePart, displacedPart, reducedPart, RELINQUISH}
 use Rattle.rules.specs.Layout.{rows, hours, used, setUsed, rowSize, row, onRow, reqtype, start, stop, relatedRow, hourAt, hoursOf, spanHours, span, granted, available, setHours, addHours, lessHours, Sized}
 use Rattle.rules.specs.Sound.{original}
 use Rattle.rules.specs.Moves.{isConfirmed}
-use Rattle.rules.specs.Megawatts.{grant, takeFrom, returnsTo, giveBack, displacedRow, displace, annulledRow, annul, reduce}
+use Rattle.rules.specs.Megawatts.{grant, takeFrom, returnsTo, giveBack, displacedRow, displace, annulledRow, annul, reducedRow, reduce}
 use Rattle.rules.specs.Confirming.{held, emptied, confirmOriginal, confirmDerived, confirmRelinquish, confirm}
 use Rattle.rules.specs.Checks.{profile}
 use Rattle.rules.specs.Submit.{newWords, newRow, submitAfter}
@@ -147,6 +147,14 @@ module _ {H s : ℕ} {mw r : List ℕ} (i : Inside H s mw r) where
   unfolding giveBack addHours
   kin-given = kin-zipped (returnsTo r) (returns-profile r) (returns-least r) _+_
 
+  kin-added : Kin H r (addHours H reducedPart s mw r)
+  unfolding addHours
+  kin-added = kin-zipped reducedPart (lit< tt) (omega arith) _+_
+
+pub kin-reduced : {H s : ℕ} {mw r : List ℕ} → Inside H s mw r → Kin H r (reducedRow H s mw r)
+unfolding reducedRow
+kin-reduced i = kin-trans (kin-taken i) (kin-added (inside-kin i (kin-taken i)))
+
 -- ---- a ledger whose rows became kin, and row n not
 pub record Spared (R H : ℕ) (l l′ : List ℕ) (n : ℕ) : Type 0 where
   pub sized : Sized l′ R H
@@ -212,6 +220,10 @@ module _ {H s : ℕ} {mw r : List ℕ} (m : Room H s mw r) where
   pub taken-length : length (takeFrom H s mw r) ≡ rowSize H
   unfolding takeFrom
   taken-length = less-length m {p = availablePart} (lit< tt)
+
+  pub reduced-length : length (reducedRow H s mw r) ≡ rowSize H
+  unfolding reducedRow
+  reduced-length = add-length (record { long = taken-length; fits = m .fits }) {p = reducedPart} (lit< tt)
 
 module _ {H s : ℕ} {mw r : List ℕ} (m : Room H s mw r) where
   pub held-length : length (held H s mw r) ≡ rowSize H
@@ -288,9 +300,9 @@ module _ {l : List ℕ} (F : Formed l) {n : ℕ} (lt : n < used l) where
     room : Room (hours l) (start (row (hours l) l n)) mw (row (hours l) l n)
     room = inside-room (inside-own F lt mw e)
 
-    pub reduce-leaves : Leaves (rows l) (hours l) l (reduce (hours l) n mw l) n (takeFrom (hours l) (start (row (hours l) l n)) mw (row (hours l) l n))
+    pub reduce-leaves : Leaves (rows l) (hours l) l (reduce (hours l) n mw l) n (reducedRow (hours l) (start (row (hours l) l n)) mw (row (hours l) l n))
     unfolding reduce
-    reduce-leaves = own-leaves (takeFrom (hours l) (start (row (hours l) l n)) mw) (taken-length room)
+    reduce-leaves = own-leaves (reducedRow (hours l) (start (row (hours l) l n)) mw) (reduced-length room)
 
     pub original-leaves : Leaves (rows l) (hours l) l (confirmOriginal (hours l) n mw l) n (held (hours l) (start (row (hours l) l n)) mw (row (hours l) l n))
     unfolding confirmOriginal

@@ -14,7 +14,7 @@ use Rattle.rules.specs.Pick.{pick, _among_}
 use Rattle.rules.specs.Numbers.{requestedPart, grantedPart, approved, grantedGiven, ACCEPTED, CONFIRMED, DISPLACED, ANNULLED, QUEUED}
 use Rattle.rules.specs.Layout.{row, rowSize, reqtype, status, related, start, stop, flags, spanHours, hourAt, requested, granted, hasFlag, has, raise, setStatus, offer, standing}
 use Rattle.rules.specs.Moves.{sellerMay}
-use Rattle.rules.specs.Megawatts.{inForce, takeFrom, displacedRow, annulledRow}
+use Rattle.rules.specs.Megawatts.{inForce, displacedRow, annulledRow, reducedRow}
 use Rattle.rules.specs.Confirming.{held, emptied}
 use Rattle.rules.specs.Checks.{profile, comes}
 use Rattle.rules.specs.Submit.{newWords, newRow}
@@ -31,7 +31,7 @@ use Rattle.rules.proofs.Passed.{ProfilePassed, profile-length, SubmitPa
 use Rattle.rules.proofs.TallyLaws.{Like}
 use Rattle.rules.proofs.Spans.{Spanned, span-length, span-kin, hour-standing}
 use Rattle.rules.proofs.Forces.{granted-comes, granted-stays, accepted-grants}
-use Rattle.rules.proofs.Shown.{Shown, shown-aside, shown-status, shown-approved, shown-requested, shown-held, shown-emptied, shown-taken, shown-displaced, shown-annulled, shown-bidden, shown-rebidden, shown-offered, shown-granted}
+use Rattle.rules.proofs.Shown.{Shown, shown-aside, shown-status, shown-approved, shown-requested, shown-held, shown-emptied, shown-reduced, shown-displaced, shown-annulled, shown-bidden, shown-rebidden, shown-offered, shown-granted}
 
 -- statuses that settle what is granted; and the others
 abbrev pub Settles : ℕ → Type 0
@@ -241,9 +241,9 @@ module _ {H : ℕ} {r : List ℕ} {e : Entry} (A : Agrees H r e) (m : Spanned H 
   approved-agrees f k =
       still-agrees A m a w answer (shown-approved (shown A m)) f (requested-kept a w e (inl (λ z. omega arith))) (granted-kept a w e (inl (λ z. omega arith)))
 
-  pub reduced-agrees : (v : List ℕ) → length v ≡ spanHours r → answer .after ≡ status r → a .kind ≡ 5 → Agrees H (takeFrom H (start r) v r) (changed a w answer e)
+  pub reduced-agrees : (v : List ℕ) → length v ≡ spanHours r → answer .after ≡ status r → a .kind ≡ 5 → Agrees H (reducedRow H (start r) v r) (changed a w answer e)
   reduced-agrees v n f k =
-      still-agrees A m a w answer (shown-taken (shown A m) v n) f (requested-kept a w e (inl (λ z. omega arith))) (granted-kept a w e (inl (λ z. omega arith)))
+      still-agrees A m a w answer (shown-reduced (shown A m) v n) f (requested-kept a w e (inl (λ z. omega arith))) (granted-kept a w e (inl (λ z. omega arith)))
 
   -- confirmed with the profile in force, from a row q that was r
   forced : {q : List ℕ} {st : ℕ} {req gr : List ℕ} {b : Bool} → Shown H (start r) (stop r) q (reqtype r) st (related r) req gr b → (s : ℕ) → s ≡ start r → answer .after ≡ CONFIRMED

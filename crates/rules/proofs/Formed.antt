@@ -1,4 +1,5 @@
--- A ledger that is formed: sound but for the bound on its available and displaced words. The last check of an action asks for that bound alone.
+-- A ledger that is formed: sound but for the bound on its available, displaced and reduced words. The last check of an
+-- action asks for that bound alone.
 use mathlib.Core.Path.{_≡_}
 use mathlib.Core.Logic.{_⊎_}
 use mathlib.Core.List.{List}

@@ -80,7 +80,7 @@ module _ (R H provider window base : ℕ) (good : goodNumbers R H provider windo
   unfolding noEntries noEntry
   column h =
       let F = fresh-column R H provider window base h in
-      record { used = F .used; st = F .st; ref = F .ref; a = F .a; d = F .d; out = λ k n. nothing (ltb k reducedSum); red = λ n. refl }
+      record { used = F .used; st = F .st; ref = F .ref; a = F .a; d = F .d; r = F .r; out = λ k n. nothing (ltb k reducedSum); red = λ n. refl }
     where
       nothing : (b : Bool) → pick b (pos 0) (pos 0) ≡ pos 0
       nothing true = refl

@@ -14,9 +14,9 @@ use lib.Seq.{getD-set-same, getD-set-other}
 use Rattle.words.specs.Lists.{zip2, noughts, within}
 use Rattle.words.proofs.Laws.{lt-or-le, part-at, within-at, within-all, noughts-length, noughts-at}
 use Rattle.rules.specs.Pick.{pick}
-use Rattle.rules.specs.Numbers.{headWords, rowWords, profiles, mostStatus, mostFlags, mostPrice, mostMegawatts, endSecond, endLimit, approved, grantedGiven, offerGiven, requestedPart, grantedPart, availablePart, displacedPart, RELINQUISH}
+use Rattle.rules.specs.Numbers.{headWords, rowWords, profiles, mostStatus, mostFlags, mostPrice, mostMegawatts, endSecond, endLimit, approved, grantedGiven, offerGiven, requestedPart, grantedPart, availablePart, displacedPart, reducedPart, RELINQUISH}
 use Rattle.rules.specs.Layout.{rows, hours, used, rowBase, rowSize, row, onRow, reqtype, status, related, start, stop, flags, bid, offer, limit, relatedRow, hasFlag, flagged, hourAt, hoursOf, spanHours, span, requested, granted, available, has, raise, setStatus, setBid, setOffer, setLimit, setHours, addHours, lessHours, clearHours, Sized}
-use Rattle.rules.specs.Megawatts.{inForce, grant, takeFrom, displacedRow, displace, annulledRow, annul, reduce}
+use Rattle.rules.specs.Megawatts.{inForce, grant, takeFrom, displacedRow, displace, annulledRow, annul, reducedRow, reduce}
 use Rattle.rules.specs.Confirming.{held, emptied, confirm}
 use Rattle.rules.specs.Checks.{profile, comes}
 use Rattle.rules.specs.SellerStatus.{accepts, grantedAfter, offered}
@@ -430,9 +430,13 @@ module _ {H : ℕ} {r q : List ℕ} (o : Same H r q) where
   unfolding takeFrom lessHours
   same-taken mw e = same-zip availablePart (lit< tt) (omega arith) _-_ mw e
 
-  pub same-added : (mw : List ℕ) → length mw ≡ spanHours r → Same H r (addHours H displacedPart (start r) mw q)
+  pub same-added : (p : ℕ) → p < profiles → availablePart ≤ p → (mw : List ℕ) → length mw ≡ spanHours r → Same H r (addHours H p (start r) mw q)
   unfolding addHours
-  same-added mw e = same-zip displacedPart (lit< tt) (omega arith) _+_ mw e
+  same-added p plt least mw e = same-zip p plt least _+_ mw e
+
+pub same-reduced : {H : ℕ} {r q : List ℕ} → Same H r q → (mw : List ℕ) → length mw ≡ spanHours r → Same H r (reducedRow H (start r) mw q)
+unfolding reducedRow
+same-reduced o mw e = same-added (same-taken o mw e) reducedPart (lit< tt) (omega arith) mw e
 
 pub same-grant : {H : ℕ} {r q : List ℕ} → Same H r q → {mw : List ℕ} → Fitting mw r → Same H r (grant H (start r) mw q)
 unfolding grant
@@ -452,7 +456,7 @@ pub same-displaced : {H : ℕ} {r : List ℕ} → Same H r r → Same H r (displ
 unfolding displacedRow
 same-displaced {H} {r} o =
     same-status
-    (same-clear (same-added o (available H r) (span-length (record { long = o .long; starts = omega (arith, o .words .starts); stops = o .words .stops }) availablePart (lit< tt)))
+    (same-clear (same-added o displacedPart (lit< tt) (omega arith) (available H r) (span-length (record { long = o .long; starts = omega (arith, o .words .starts); stops = o .words .stops }) availablePart (lit< tt)))
     availablePart (lit< tt) (spanHours r) (omega (arith, o .words .starts)))
     (omega arith) (omega arith)
 
@@ -513,7 +517,7 @@ module _ {l : List ℕ} (F : Formed l) {n : ℕ} (lt : n < used l) where
   next-annul = next-leaves (annul-leaves F lt) (same-annulled (same-self F lt))
 
   pub next-reduce : (mw : List ℕ) → length mw ≡ spanHours (row (hours l) l n) → Next l (reduce (hours l) n mw l)
-  next-reduce mw e = next-leaves (reduce-leaves F lt mw e) (same-taken (same-self F lt) mw e)
+  next-reduce mw e = next-leaves (reduce-leaves F lt mw e) (same-reduced (same-self F lt) mw e)
 
   pub next-confirm : {mw : List ℕ} → Fitting mw (row (hours l) l n) → Next l (confirm (hours l) n mw l)
   next-confirm {mw} f = next-leaves (confirm-leaves F lt mw (f .counted)) (same-confirmed (same-self F lt) f (eqb (reqtype (row (hours l) l n)) RELINQUISH))

@@ -32,7 +32,7 @@ use Rattle.rules.proofs.Seen.{Room}
 use Rattle.rules.proofs.SoundFacts.{SoundLedger, sized}
 use Rattle.rules.proofs.Formed.{Formed, formed}
 use Rattle.rules.proofs.Leaves.{Leaves}
-use Rattle.rules.proofs.Effects.{own-leaves, displace-leaves, annul-leaves, reduce-leaves, confirm-leaves, kin-taken, inside-own, row-spanned, displaced-length, annulled-length}
+use Rattle.rules.proofs.Effects.{own-leaves, displace-leaves, annul-leaves, reduce-leaves, confirm-leaves, kin-reduced, inside-own, row-spanned, displaced-length, annulled-length}
 use Rattle.rules.proofs.Passed.{SubmitPassed, ConfirmPassed, confirm-passed, SellerPassed, CustomerPassed, BidPassed, ApprovePassed, ReducePassed, LapsePassed, SellerMove, seller-move, CustomerMove, customer-move, annuls-from, annuls-open, open-off, lapsing-off, profile-length}
 use Rattle.rules.proofs.Submitted.{submit-opens, new-field}
 use Rattle.rules.proofs.Placed.{placed}
@@ -254,7 +254,7 @@ module _ {l : List ℕ} (s : SoundLedger l) (a : Action) (lt : named a < used l)
   unfolding reduceAfter
   reduce-use w P =
       let long : length (profile w a) ≡ spanHours r = profile-length (P .profile) in
-      let now : status (row H (reduce H n (profile w a) l) n) ≡ status r = ap status (reduce-leaves F lt (profile w a) long .own) ∙ kin-taken (inside-own F lt (profile w a) long) .field 1 (lit< tt) in
+      let now : status (row H (reduce H n (profile w a) l) n) ≡ status r = ap status (reduce-leaves F lt (profile w a) long .own) ∙ kin-reduced (inside-own F lt (profile w a) long) .field 1 (lit< tt) in
       spares (reduce H n (profile w a) l) (takes-kept _ _ (P .confirmed) (λ z. omega (arith, z, now, P .confirmed)))
 
   -- ---- 6 Lapse

@@ -21,9 +21,9 @@ pub mod Quiet
 pub mod Begins
 pub mod Kept
 pub mod Submitted
-pub mod Soundness
 pub mod Unmoved
 pub mod Bounded
+pub mod Soundness
 pub mod Over
 pub mod Before
 pub mod TallyLaws
@@ -49,3 +49,4 @@ pub mod Batches
 pub mod Demand
 pub mod Day
 pub mod Limited
+pub mod Reduced

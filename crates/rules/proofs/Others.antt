@@ -11,14 +11,14 @@ use lib.IntN.{ℤ, pos, negℤ, _+ℤ_}
 use Rattle.words.specs.Lists.{covered, equal}
 use Rattle.words.proofs.Laws.{lt-or-le}
 use Rattle.rules.specs.Pick.{pick}
-use Rattle.rules.specs.Numbers.{grantedPart, availablePart, displacedPart, RELINQUISH}
+use Rattle.rules.specs.Numbers.{grantedPart, availablePart, displacedPart, reducedPart, RELINQUISH}
 use Rattle.rules.specs.Layout.{hours, used, row, onRow, reqtype, status, related, start, relatedRow, spanHours, hoursOf, span, granted, available, standing}
-use Rattle.rules.specs.Megawatts.{takeFrom, returnsTo, giveBack, displacedRow, displace, annulledRow, annul, reduce}
+use Rattle.rules.specs.Megawatts.{returnsTo, giveBack, displacedRow, displace, annulledRow, annul, reducedRow, reduce}
 use Rattle.column.specs.Column.{share}
 use Rattle.column.specs.Use.{Tested}
 use Rattle.column.specs.Step.{OutStays, RedStays, AnnulTop, AnnulChild, Displace, Reduce, Step, annul-top, annul-child, displace as displacing, reduce as reducing}
 use Rattle.rules.proofs.Seen.{Seen, at, seen-self, seen-set, seen-add, seen-clear}
-use Rattle.rules.proofs.Writes.{words, megawatts, seen-taken, seen-given, covered-hour, returned, returned-available, returned-granted, word-of, hour-of}
+use Rattle.rules.proofs.Writes.{words, megawatts, seen-reduced, seen-given, covered-hour, returned, returned-available, returned-other, word-of, hour-of}
 use Rattle.rules.proofs.Turned.{Turned, turned, kept-word, still}
 use Rattle.rules.proofs.View.{view}
 use Rattle.rules.proofs.Formed.{Formed}
@@ -50,9 +50,9 @@ module _ {R H : ℕ} {l : List ℕ} {n : ℕ} (o : Placed R H l n) {h : ℕ} (hl
       covered-hour hlt (room-for o long (o .own)) availablePart (lit< tt)
       (ap (λ (k : ℕ). covered mw (hoursOf H availablePart s k (row H l n))) long ∙ e)
 
-  reduced : (mw : List ℕ) → length mw ≡ spanHours (row H l n) → Turned R H l (reduce H n mw l) n (takeFrom H s mw (row H l n))
+  reduced : (mw : List ℕ) → length mw ≡ spanHours (row H l n) → Turned R H l (reduce H n mw l) n (reducedRow H s mw (row H l n))
   unfolding reduce
-  reduced mw long = turned (o .sized) (o .own) (takeFrom H s mw) refl (seen-taken hlt (room-for o long (o .own)) .long)
+  reduced mw long = turned (o .sized) (o .own) (reducedRow H s mw) refl (seen-reduced hlt (room-for o long (o .own)) .long)
 
   -- ---- displacing
   displaces : Seen H h (displacedRow H (row H l n)) (at (words (row H l n)) 1 15) (at (at (megawatts H h (row H l n)) displacedPart (megawatts H h (row H l n) displacedPart + standing s (available H (row H l n)) h)) availablePart 0)
@@ -104,7 +104,7 @@ module _ {R H : ℕ} {l : List ℕ} {n : ℕ} (o : Placed R H l n) {h : ℕ} (hl
         → ((m : ℕ) → m ≢ n → red′ m ≡ red m)
         → Reduce (view H h l out red) (view H h (reduce H n mw l) out′ red′) n (standing s mw h)
     reduce-of mw long ok outs one others =
-        let K = seen-taken hlt (room-for o long (o .own)) in
+        let K = seen-reduced hlt (room-for o long (o .own)) in
         let T = reduced mw long in
         record {
           keeps = record { used = T .head 6 (lit< tt); ty = kept-word T refl 0 (K .field 0 (lit< tt)); ref = kept-word T refl 4 (K .field 4 (lit< tt)); path = kept-word T refl 11 (K .field 11 (lit< tt)) };
@@ -114,6 +114,7 @@ module _ {R H : ℕ} {l : List ℕ} {n : ℕ} (o : Placed R H l n) {h : ℕ} (hl
           g = hour-of (T .own) K grantedPart (lit< tt);
           a = omega (arith, hour-of (T .own) K availablePart (lit< tt), covers mw long ok);
           d = hour-of (T .own) K displacedPart (lit< tt);
+          r = hour-of (T .own) K reducedPart (lit< tt);
           rest = λ m ne. still H h l (reduce H n mw l) out out′ red red′ m (T .other m ne);
           outs = outs;
           red = one;
@@ -135,6 +136,7 @@ module _ {R H : ℕ} {l : List ℕ} {n : ℕ} (o : Placed R H l n) {h : ℕ} (hl
           g = hour-of (T .own) K grantedPart (lit< tt);
           a = hour-of (T .own) K availablePart (lit< tt);
           d = hour-of (T .own) K displacedPart (lit< tt) ∙ ap (λ (z : ℕ). megawatts H h (row H l n) displacedPart + z) (span-standing o hlt availablePart (lit< tt));
+          r = hour-of (T .own) K reducedPart (lit< tt);
           rest = λ m ne. still H h l (displace H n l) out out′ red red′ m (T .other m ne);
           outs = outs;
           reds = reds;
@@ -158,6 +160,7 @@ module _ {R H : ℕ} {l : List ℕ} {n : ℕ} (o : Placed R H l n) {h : ℕ} (hl
             after = ((λ e. omega (arith, e, E)), (λ e. omega (arith, e, E)));
             a = hour-of (T .own) K availablePart (lit< tt);
             d = hour-of (T .own) K displacedPart (lit< tt);
+            r = hour-of (T .own) K reducedPart (lit< tt);
             rest = λ m ne. still H h l (onRow H n (annulledRow H) l) out out′ red red′ m (T .other m ne);
             outs = outs;
             reds = reds;
@@ -190,9 +193,11 @@ module _ {R H : ℕ} {l : List ℕ} {n : ℕ} (o : Placed R H l n) {h : ℕ} (hl
             after = ((λ e. omega (arith, e, E)), (λ e. omega (arith, e, E)));
             a = hour-of (T2 .own) K availablePart (lit< tt);
             d = hour-of (T2 .own) K displacedPart (lit< tt);
+            r = hour-of (T2 .own) K reducedPart (lit< tt);
             p-st = word-of P G 1 (lit< tt);
             p-a = λ e. hour-of P G availablePart (lit< tt) ∙ returned-available (megawatts H h (row H l (relatedRow H l n))) (standing s (granted H (row H l n)) h) (row H l (relatedRow H l n)) e ∙ ap (λ (z : ℕ). megawatts H h (row H l (relatedRow H l n)) availablePart + z) (span-standing o hlt grantedPart (lit< tt));
-            p-g = hour-of P G grantedPart (lit< tt) ∙ returned-granted (megawatts H h (row H l (relatedRow H l n))) _ (row H l (relatedRow H l n));
+            p-g = hour-of P G grantedPart (lit< tt) ∙ returned-other (megawatts H h (row H l (relatedRow H l n))) _ (row H l (relatedRow H l n)) grantedPart (λ e. omega (arith, e)) (λ e. omega (arith, e));
+            p-r = hour-of P G reducedPart (lit< tt) ∙ returned-other (megawatts H h (row H l (relatedRow H l n))) _ (row H l (relatedRow H l n)) reducedPart (λ e. omega (arith, e)) (λ e. omega (arith, e));
             p-ad = omega (arith, hour-of P G availablePart (lit< tt), hour-of P G displacedPart (lit< tt), span-standing o hlt grantedPart (lit< tt), returned (megawatts H h (row H l (relatedRow H l n))) (standing s (granted H (row H l n)) h) (row H l (relatedRow H l n)));
             rest = λ m e e′. still H h l l2 out out′ red red′ m (T2 .other m e ∙ T1 .other m e′);
             outs = outs;

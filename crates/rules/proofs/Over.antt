@@ -1,4 +1,5 @@
--- Where an action on a sound ledger can carry a word over 100,000: where megawatts are given back, and where a row is displaced. There it is the last check of the action; elsewhere that check passes.
+-- Where an action on a sound ledger can carry a word over 100,000: where megawatts are given back, and where a row is
+-- displaced or reduced. There it is the last check of the action; elsewhere that check passes.
 use mathlib.Core.Path.{_≡_, refl, sym, ap, subst, _∙_}
 use mathlib.Core.Logic.{_⊎_, inl, inr}
 use mathlib.Core.Bool.{Bool, true, false, _&&_, not}
@@ -13,9 +14,9 @@ use borrow.Author.Tests.{not-false, eq-eqb, ne-eqb}
 use Rattle.words.specs.Lists.{roomy, within}
 use Rattle.words.proofs.Laws.{lt-or-le}
 use Rattle.rules.specs.Numbers.{grantedPart, mostMegawatts, approved, RELINQUISH}
-use Rattle.rules.specs.Layout.{rows, hours, used, row, onRow, rowSize, reqtype, start, stop, relatedRow, spanHours, hoursOf, granted, available, displaced, setStatus, raise, Sized}
+use Rattle.rules.specs.Layout.{rows, hours, used, row, onRow, rowSize, reqtype, start, stop, relatedRow, spanHours, hoursOf, granted, available, displaced, reduced, setStatus, raise, Sized}
 use Rattle.rules.specs.Sound.{original}
-use Rattle.rules.specs.Megawatts.{takeFrom, returnsTo, giveBack, displacedRow, displace, annulledRow, annul, reduce, carriesOver}
+use Rattle.rules.specs.Megawatts.{takeFrom, returnsTo, giveBack, displacedRow, displace, annulledRow, annul, reducedRow, reduce, carriesOver}
 use Rattle.rules.specs.Confirming.{held, emptied, confirmOriginal, confirmDerived, confirmRelinquish, confirm}
 use Rattle.rules.specs.Checks.{profile, comes}
 use Rattle.rules.specs.Submit.{newRow, submitAfter}
@@ -28,7 +29,7 @@ use Rattle.rules.proofs.Turned.{Turned, turned}
 use Rattle.rules.proofs.SoundFacts.{SoundLedger, sized}
 use Rattle.rules.proofs.Types.{original-type, derived-type}
 use Rattle.rules.proofs.Unmoved.{Unmoved, unmoved-turned, types-stay, starts-stay, stops-stay, related-stays, unmoved-status, unmoved-raise, unmoved-offered, unmoved-bidden}
-use Rattle.rules.proofs.Bounded.{Bounded, AllBounded, not-carries, carries-false, Ranged, taken-long, given-long, held-long, emptied-long, displaced-long, annulled-long, taken-bounded, given-bounded, bounded-given, held-bounded, emptied-bounded, displaced-bounded, bounded-displaced, annulled-bounded, span-length, unmoved-bounded, new-long, new-bounded}
+use Rattle.rules.proofs.Bounded.{Bounded, AllBounded, not-carries, carries-false, Ranged, taken-long, given-long, held-long, emptied-long, displaced-long, annulled-long, reduced-long, taken-bounded, given-bounded, bounded-given, held-bounded, emptied-bounded, displaced-bounded, bounded-displaced, annulled-bounded, reduced-bounded, bounded-reduced, span-length, unmoved-bounded, new-long, new-bounded}
 
 -- mw given back to row r from hour s on
 unfoldable pub full : ℕ → ℕ → List ℕ → List ℕ → Bool
@@ -47,6 +48,10 @@ overAnnulling H l n =
 -- row r is displaced
 unfoldable pub overDisplacing : ℕ → List ℕ → Bool
 overDisplacing H r = not (roomy mostMegawatts (available H r) (displaced H r))
+
+-- row r is reduced by mw
+unfoldable pub overReducing : ℕ → List ℕ → List ℕ → Bool
+overReducing H mw r = not (roomy mostMegawatts mw (reduced H r))
 
 -- ---- what the last check rests on: words within the bound, and spans in the ledger's hours and in those of the rows above
 pub record Carried (R H : ℕ) (l : List ℕ) : Type 0 where
@@ -124,12 +129,18 @@ module _ {R H : ℕ} {l : List ℕ} {n : ℕ} (c : Carried R H l) (lt : n < used
     taken-turned : {m : ℕ} → m < used l → Turned R H l (onRow H m (takeFrom H (start (row H l n)) mw) l) m (takeFrom H (start (row H l n)) mw (row H l m))
     taken-turned k = turned (c .sized) (omega (arith, k, c .most-used)) (takeFrom H (start (row H l n)) mw) refl (taken-long (ranged c k) (start (row H l n)) mw fits)
 
+    reduced-turned : Turned R H l (onRow H n (reducedRow H (start (row H l n)) mw) l) n (reducedRow H (start (row H l n)) mw (row H l n))
+    reduced-turned = turned (c .sized) own-row (reducedRow H (start (row H l n)) mw) refl (reduced-long (ranged c lt) mw long)
+
     taken-all : {m : ℕ} → m < used l → AllBounded H (onRow H m (takeFrom H (start (row H l n)) mw) l)
     taken-all {m} k = turned-bounded (taken-turned k) (c .bounded) (taken-bounded (ranged c k) (c .bounded m k) (start (row H l n)) mw fits)
 
-    pub reducing : carriesOver H (reduce H n mw l) ≡ false
-    unfolding reduce
-    reducing = not-carries H (reduce H n mw l) (taken-all lt)
+    pub reducing : carriesOver H (reduce H n mw l) ≡ overReducing H mw (row H l n)
+    unfolding reduce overReducing
+    reducing =
+        same-carries H (reduce H n mw l) (overReducing H mw (row H l n))
+        (λ all. ap not (bounded-reduced (ranged c lt) mw long (subst (λ (x : List ℕ). Bounded H x) (reduced-turned .own) (all n (omega (arith, reduced-turned .head 6 (lit< tt), lt))))))
+        (λ e. turned-bounded reduced-turned (c .bounded) (reduced-bounded (ranged c lt) mw long (c .bounded n lt) (not-false _ e)))
 
     original-all : within mostMegawatts mw ≡ true → AllBounded H (confirmOriginal H n mw l)
     unfolding confirmOriginal
@@ -304,7 +315,7 @@ module _ {R H : ℕ} {l : List ℕ} {n : ℕ} (c : Carried R H l) (lt : n < used
         (omega (arith, i, still-start m, still-start (relatedRow H l m)), omega (arith, i, still-stop m, still-stop (relatedRow H l m)))
 
     unmoved-all : AllBounded H (onRow H n f l)
-    unmoved-all = turned-bounded written (c .bounded) (unmoved-bounded (c .stops n lt) q (c .bounded n lt))
+    unmoved-all = turned-bounded written (c .bounded) (unmoved-bounded q (c .bounded n lt))
 
     pub unmoved-carried : Carried R H (onRow H n f l)
     unmoved-carried = record {
@@ -329,7 +340,7 @@ module _ {R H : ℕ} {l : List ℕ} {n : ℕ} (c : Carried R H l) (lt : n < used
 
 -- ---- a new row
 module _ {R H : ℕ} {l : List ℕ} (c : Carried R H l) (lt : used l < R) (zero : (k : ℕ) → getD (row H l (used l)) k 0 ≡ 0)
-    (w : List ℕ) (a : Action) (stops : a .stop ≤ H) (fit : a .start + length (profile w a) ≤ H) where
+    (w : List ℕ) (a : Action) (fit : a .start + length (profile w a) ≤ H) where
   new-row-long : length (newRow H w a (row H l (used l))) ≡ rowSize H
   new-row-long = new-long H (row H l (used l)) (row-length (c .sized) lt) w a fit
 
@@ -347,7 +358,7 @@ module _ {R H : ℕ} {l : List ℕ} (c : Carried R H l) (lt : used l < R) (zero 
       go : Dec (m ≡ used l) → Bounded H (row H (onRow H (used l) (newRow H w a) l) m)
       go (yes e) =
           subst (λ (x : List ℕ). Bounded H x) (sym (ap (λ (i : ℕ). row H (onRow H (used l) (newRow H w a) l) i) e ∙ new-turned .own))
-          (new-bounded H (row H l (used l)) (row-length (c .sized) lt) w a fit zero stops)
+          (new-bounded H (row H l (used l)) (row-length (c .sized) lt) w a fit zero)
       go (no n) = subst (λ (x : List ℕ). Bounded H x) (sym (new-turned .other m n)) (c .bounded m (omega (arith, k, new-used, n)))
 
   pub submitting : carriesOver H (submitAfter H l w a) ≡ false
@@ -374,7 +385,7 @@ module _ {l : List ℕ} (s : SoundLedger l) where
   pub over-displacing : {n : ℕ} → n < used l → carriesOver (hours l) (displace (hours l) n l) ≡ overDisplacing (hours l) (row (hours l) l n)
   over-displacing lt = displacing (carried s) lt
 
-  pub over-reducing : {n : ℕ} → n < used l → (mw : List ℕ) → length mw ≡ spanHours (row (hours l) l n) → carriesOver (hours l) (reduce (hours l) n mw l) ≡ false
+  pub over-reducing : {n : ℕ} → n < used l → (mw : List ℕ) → length mw ≡ spanHours (row (hours l) l n) → carriesOver (hours l) (reduce (hours l) n mw l) ≡ overReducing (hours l) mw (row (hours l) l n)
   over-reducing lt mw long = reducing (carried s) lt mw long
 
   pub over-quiet : {n : ℕ} → n < used l → (f : List ℕ → List ℕ) → Unmoved (hours l) (row (hours l) l n) (f (row (hours l) l n)) → carriesOver (hours l) (onRow (hours l) n f l) ≡ false
@@ -382,7 +393,7 @@ module _ {l : List ℕ} (s : SoundLedger l) where
 
   pub over-submitting : used l < rows l → (w : List ℕ) (a : Action) → a .start < a .stop → a .stop ≤ hours l → length (profile w a) ≡ a .stop - a .start
       → carriesOver (hours l) (submitAfter (hours l) l w a) ≡ false
-  over-submitting lt w a starts stops e = submitting (carried s) lt (s .unused (used l) (omega arith)) w a stops (omega (arith, starts, stops, e))
+  over-submitting lt w a starts stops e = submitting (carried s) lt (s .unused (used l) (omega arith)) w a (omega (arith, starts, stops, e))
 
   -- a posting leaves the ledger as it is
   pub over-posting : carriesOver (hours l) l ≡ false

@@ -7,7 +7,7 @@ use Prim.Native.Nat.{ℕ, _+_, _-_, _<_}
 use native.Mathlib.Decide.{ℕ-discrete}
 use native.Mathlib.Omega.{arith}
 use borrow.Author.Tests.{eq-eqb}
-use lib.Dec.{eqb, leb, lit<}
+use lib.Dec.{eqb, leb, lit<, lit≤}
 use lib.ListN.{length}
 use Rattle.words.specs.Lists.{wordAt, allBelow, sumBelow, equal}
 use Rattle.words.proofs.Laws.{all-cong, sum-cong}
@@ -105,7 +105,7 @@ module _ {R H : ℕ} {l : List ℕ} {n : ℕ} (o : Placed R H l n) (f : List ℕ
           go : Dec (m ≡ n) → wordAt (row H l1 m) (hourAt H availablePart h) ≡ wordAt (row H l m) (hourAt H availablePart h)
           go (yes e) =
               ap (λ (k : ℕ). wordAt (row H l1 k) (hourAt H availablePart h)) e ∙ ap (λ (r : List ℕ). wordAt r (hourAt H availablePart h)) (written .own)
-              ∙ q .same-available h hlt ∙ sym (ap (λ (k : ℕ). wordAt (row H l k) (hourAt H availablePart h)) e)
+              ∙ q .same-hour availablePart h (lit≤ tt) ∙ sym (ap (λ (k : ℕ). wordAt (row H l k) (hourAt H availablePart h)) e)
           go (no ne) = ap (λ (r : List ℕ). wordAt r (hourAt H availablePart h)) (written .other m ne)
 
   use-stays : (mw : List ℕ) (x h : ℕ) → h < H → useConfirming H (onRow H n f l) n mw x h ≡ useConfirming H l n mw x h

@@ -15,7 +15,7 @@ use Rattle.column.specs.Step.{OutStays, RedStays}
 use Rattle.rules.specs.Pick.{pick, when}
 use Rattle.rules.specs.Numbers.{approved, ACCEPTED, CR-ACCEPTED, CONFIRMED, RETRACTED}
 use Rattle.rules.specs.Layout.{rows, hours, used, row, onRow, reqtype, status, start, spanHours, has, raise, setStatus, setClock, span, available, standing}
-use Rattle.rules.specs.Megawatts.{inForce, takeFrom}
+use Rattle.rules.specs.Megawatts.{inForce}
 use Rattle.rules.specs.Confirming.{confirm, confirmNumber, unconfirmed, short}
 use Rattle.rules.specs.Checks.{named, namedRow, profile, waitsAt}
 use Rattle.rules.specs.Approve.{approveAfter}
@@ -30,7 +30,7 @@ use Rattle.rules.proofs.Rows.{head-row}
 use Rattle.rules.proofs.SoundFacts.{SoundLedger}
 use Rattle.rules.proofs.Formed.{Formed, formed}
 use Rattle.rules.proofs.View.{view, outOf, redOf}
-use Rattle.rules.proofs.Effects.{own-leaves, reduce-leaves, confirm-leaves, kin-taken, inside-own}
+use Rattle.rules.proofs.Effects.{own-leaves, reduce-leaves, confirm-leaves, kin-reduced, inside-own}
 use Rattle.rules.proofs.Passed.{ApprovePassed, ReducePassed, LapsePassed, ConfirmPassed, confirm-passed, profile-length, waits-at, open-off, lapsing-off}
 use Rattle.rules.proofs.Placed.{placed}
 use Rattle.rules.proofs.Others.{reduce-step}
@@ -185,7 +185,7 @@ reduce-good {B} {l} {t} G w a P S {answer} A k =
     let count = answer-counts A (P .reference .0) in
     let long : length (profile w a) ≡ spanHours (namedRow (hours l) l a) = profile-length (P .profile) in
     let L = reduce-leaves F lt (profile w a) long in
-    let now : status (row (hours l) (reduceAfter (hours l) l w a) (named a)) ≡ status (namedRow (hours l) l a) = ap status (L .own) ∙ kin-taken (inside-own F lt (profile w a) long) .field 1 (lit< tt) in
+    let now : status (row (hours l) (reduceAfter (hours l) l w a) (named a)) ≡ status (namedRow (hours l) l a) = ap status (L .own) ∙ kin-reduced (inside-own F lt (profile w a) long) .field 1 (lit< tt) in
     let after : answer .after ≡ CONFIRMED = A .after ∙ now ∙ P .confirmed in
     let before : answer .before ≡ CONFIRMED = A .before ∙ P .confirmed in
     let ref : answer .reference ≡ suc (named a) = is-reference G a (P .reference .0) (P .reference .1) w A later in

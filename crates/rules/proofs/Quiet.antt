@@ -5,13 +5,13 @@ use mathlib.Core.Bool.{Bool, true, false, _||_}
 use mathlib.Core.List.{List}
 use Prim.Native.Nat.{ℕ, _+_, _≤_, _<_}
 use native.Mathlib.Omega.{arith}
-use lib.Dec.{lit<}
+use lib.Dec.{lit<, lit≤}
 use lib.ListN.{length, set, length-set}
 use lib.Seq.{getD-set-same, getD-set-other}
 use lib.IntN.{ℤ}
 use Rattle.words.proofs.Laws.{splice-length, splice-before, splice-after}
 use Rattle.rules.specs.Pick.{when}
-use Rattle.rules.specs.Numbers.{rowWords, requestedPart, grantedPart, availablePart, displacedPart, approved}
+use Rattle.rules.specs.Numbers.{rowWords, requestedPart, grantedPart, availablePart, displacedPart, reducedPart, approved}
 use Rattle.rules.specs.Layout.{hours, used, row, onRow, rowSize, reqtype, status, related, path, start, spanHours, hourAt, setHours, setStatus, raise}
 use Rattle.rules.specs.Megawatts.{grant}
 use Rattle.rules.specs.Checks.{profile, comes}
@@ -34,11 +34,10 @@ pub record Calm (H h : ℕ) (r q : List ℕ) (s : ℕ) : Type 0 where
   pub status : status q ≡ s
   pub related : related q ≡ related r
   pub path : path q ≡ path r
-  pub available : megawatts H h q availablePart ≡ megawatts H h r availablePart
-  pub displaced : megawatts H h q displacedPart ≡ megawatts H h r displacedPart
+  pub hour : (p : ℕ) → availablePart ≤ p → megawatts H h q p ≡ megawatts H h r p
 
 pub calm-self : (H h : ℕ) (r : List ℕ) → length r ≡ rowSize H → Calm H h r r (status r)
-calm-self H h r e = record { long = e; type = refl; status = refl; related = refl; path = refl; available = refl; displaced = refl }
+calm-self H h r e = record { long = e; type = refl; status = refl; related = refl; path = refl; hour = λ p low. refl }
 
 module _ {H h : ℕ} {r q : List ℕ} {s : ℕ} (c : Calm H h r q s) where
   pub calm-set : (k v : ℕ) → k < rowWords → 0 ≢ k → 1 ≢ k → 4 ≢ k → 11 ≢ k → Calm H h r (set q k v) s
@@ -48,8 +47,7 @@ module _ {H h : ℕ} {r q : List ℕ} {s : ℕ} (c : Calm H h r q s) where
     status = getD-set-other q k 1 v 0 n1 ∙ c .status;
     related = getD-set-other q k 4 v 0 n4 ∙ c .related;
     path = getD-set-other q k 11 v 0 n11 ∙ c .path;
-    available = getD-set-other q k (hourAt H availablePart h) v 0 (λ e. omega (arith, e, lt)) ∙ c .available;
-    displaced = getD-set-other q k (hourAt H displacedPart h) v 0 (λ e. omega (arith, e, lt)) ∙ c .displaced;
+    hour = λ p low. getD-set-other q k (hourAt H p h) v 0 (λ e. omega (arith, e, lt)) ∙ c .hour p low;
   }
 
   pub calm-status : (v : ℕ) → Calm H h r (setStatus v q) v
@@ -59,8 +57,7 @@ module _ {H h : ℕ} {r q : List ℕ} {s : ℕ} (c : Calm H h r q s) where
     status = getD-set-same q 1 v 0 (omega (arith, c .long));
     related = getD-set-other q 1 4 v 0 (λ e. omega (arith, e)) ∙ c .related;
     path = getD-set-other q 1 11 v 0 (λ e. omega (arith, e)) ∙ c .path;
-    available = getD-set-other q 1 (hourAt H availablePart h) v 0 (λ e. omega (arith, e)) ∙ c .available;
-    displaced = getD-set-other q 1 (hourAt H displacedPart h) v 0 (λ e. omega (arith, e)) ∙ c .displaced;
+    hour = λ p low. getD-set-other q 1 (hourAt H p h) v 0 (λ e. omega (arith, e)) ∙ c .hour p low;
   }
 
   -- hours of requested or granted
@@ -72,8 +69,7 @@ module _ {H h : ℕ} {r q : List ℕ} {s : ℕ} (c : Calm H h r q s) where
     status = splice-before q (hourAt H p a) v room 1 (omega arith) ∙ c .status;
     related = splice-before q (hourAt H p a) v room 4 (omega arith) ∙ c .related;
     path = splice-before q (hourAt H p a) v room 11 (omega arith) ∙ c .path;
-    available = splice-after q (hourAt H p a) v room (hourAt H availablePart h) (omega (arith, hour-apart H plt, fits)) ∙ c .available;
-    displaced = splice-after q (hourAt H p a) v room (hourAt H displacedPart h) (omega (arith, hour-apart H plt, fits)) ∙ c .displaced;
+    hour = λ b low. let apart : p < b = omega (arith, plt, low) in splice-after q (hourAt H p a) v room (hourAt H b h) (omega (arith, hour-apart H apart, fits)) ∙ c .hour b low;
   }
     where
       room : hourAt H p a + length v ≤ length q
@@ -97,8 +93,9 @@ module _ {R H : ℕ} {l : List ℕ} {n : ℕ} (o : Placed R H l n) {h : ℕ} (f 
         in-use = o .in-use;
         before = before;
         after = subst Off (sym (ap (λ (x : List ℕ). status x) (T .own) ∙ c .status)) after;
-        a = ap (λ (x : List ℕ). megawatts H h x availablePart) (T .own) ∙ c .available;
-        d = ap (λ (x : List ℕ). megawatts H h x displacedPart) (T .own) ∙ c .displaced;
+        a = ap (λ (x : List ℕ). megawatts H h x availablePart) (T .own) ∙ c .hour availablePart (lit≤ tt);
+        d = ap (λ (x : List ℕ). megawatts H h x displacedPart) (T .own) ∙ c .hour displacedPart (lit≤ tt);
+        r = ap (λ (x : List ℕ). megawatts H h x reducedPart) (T .own) ∙ c .hour reducedPart (lit≤ tt);
         rest = λ m ne. still H h l (onRow H n f l) out out′ red red′ m (T .other m ne);
         outs = outs;
         reds = reds;

@@ -9,9 +9,9 @@ use lib.Dec.{lit<, lit≤}
 use lib.ListN.{length, getD, set, length-set}
 use lib.Seq.{getD-set-same, getD-set-other}
 use Rattle.rules.specs.Pick.{when}
-use Rattle.rules.specs.Numbers.{rowWords, profiles, requestedPart, grantedPart, availablePart, displacedPart, approved, grantedGiven, offerGiven, CONFIRMED, DISPLACED, ANNULLED}
+use Rattle.rules.specs.Numbers.{rowWords, profiles, requestedPart, grantedPart, availablePart, displacedPart, reducedPart, approved, grantedGiven, offerGiven, CONFIRMED, DISPLACED, ANNULLED}
 use Rattle.rules.specs.Layout.{rowSize, reqtype, status, related, start, stop, flags, spanHours, hourAt, span, requested, granted, available, setHours, addHours, lessHours, clearHours, hasFlag, flagged, has, raise}
-use Rattle.rules.specs.Megawatts.{grant, takeFrom, displacedRow, annulledRow}
+use Rattle.rules.specs.Megawatts.{grant, takeFrom, displacedRow, annulledRow, reducedRow}
 use Rattle.rules.specs.Confirming.{held, emptied}
 use Rattle.rules.specs.Checks.{profile, comes}
 use Rattle.rules.specs.SellerStatus.{accepts, offered}
@@ -199,6 +199,10 @@ module _ {H s t : ℕ} {r : List ℕ} {ty st ref : ℕ} {req gr : List ℕ} {b :
   pub shown-taken : (v : List ℕ) → length v ≡ t - s → Shown H s t (takeFrom H s v r) ty st ref req gr b
   unfolding takeFrom
   shown-taken v e = shown-less S availablePart s v (lit≤ tt) (lit< tt) (omega (arith, S .low, S .high))
+
+  pub shown-reduced : (v : List ℕ) → length v ≡ t - s → Shown H s t (reducedRow H s v r) ty st ref req gr b
+  unfolding reducedRow
+  shown-reduced v e = shown-add (shown-taken v e) reducedPart s v (lit≤ tt) (lit< tt) (omega (arith, S .low, S .high))
 
   clears : (q : List ℕ) → Shown H s t q ty st ref req gr b → Shown H s t (clearHours H availablePart (start r) (spanHours r) q) ty st ref req gr b
   clears q T = shown-clear T availablePart (start r) (spanHours r) (lit≤ tt) (lit< tt) (omega (arith, S .start, S .stop, S .low, S .high))

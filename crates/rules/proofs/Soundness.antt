@@ -4,17 +4,15 @@ use mathlib.Core.Logic.{_⊎_, inl, inr}
 use mathlib.Core.Bool.{Bool, true, false, _&&_, not}
 use mathlib.Core.List.{List}
 use Prim.Native.Nat.{ℕ, _+_, _-_, _≤_, _<_}
-use native.Mathlib.Decide.{ℕ-discrete}
 use native.Mathlib.Omega.{arith}
 use borrow.Author.Tests.{eqb-true, leb-true, not-false}
 use lib.Dec.{eqb, leb, lit<}
 use lib.ListN.{getD, length-set}
 use lib.Seq.{getD-set-same, getD-set-other}
-use Rattle.words.specs.Lists.{within}
-use Rattle.words.proofs.Laws.{lt-or-le, part-at, part-length, within-at, all-at, and-left, and-right}
+use Rattle.words.proofs.Laws.{lt-or-le, and-left, and-right}
 use Rattle.rules.specs.Pick.{pick}
-use Rattle.rules.specs.Numbers.{profiles, mostEntity, mostMegawatts, endSecond, entity, availablePart, displacedPart, approved, ACCEPTED, CR-ACCEPTED, DISPLACED, RETRACTED}
-use Rattle.rules.specs.Layout.{rows, hours, window, clock, used, setClock, row, onRow, reqtype, status, related, start, stop, hourAt, spanHours, span, available, displaced, raise, setStatus, Sized}
+use Rattle.rules.specs.Numbers.{profiles, mostEntity, mostMegawatts, endSecond, entity, availablePart, approved, ACCEPTED, CR-ACCEPTED, DISPLACED, RETRACTED}
+use Rattle.rules.specs.Layout.{rows, hours, window, clock, used, setClock, row, onRow, reqtype, status, related, start, stop, hourAt, raise, setStatus, Sized}
 use Rattle.rules.specs.Sound.{sound}
 use Rattle.rules.specs.Megawatts.{inForce, carriesOver}
 use Rattle.rules.specs.Confirming.{confirm}
@@ -35,9 +33,8 @@ use Rattle.rules.proofs.SoundFacts.{SoundWords, SoundLedger, sound-fact
 use Rattle.rules.proofs.Formed.{FormedHours, Formed, formed}
 use Rattle.rules.proofs.Passed.{gives-none, or-else-none, profile-length, SellerPassed, CustomerPassed, ApprovePassed, ReducePassed, LapsePassed, ClockPassed, submit-passed, seller-status-passed, customer-status-passed, approve-passed, reduce-passed, lapse-passed, clock-passed, post-passed}
 use Rattle.rules.proofs.Posts.{SoundPostings, postings-facts, facts-postings, posted-sound}
-use Rattle.rules.proofs.Spans.{Spanned, span-room}
-use Rattle.rules.proofs.Effects.{row-spanned}
 use Rattle.rules.proofs.Submitted.{submit-next}
+use Rattle.rules.proofs.Bounded.{Bounded, carries-false}
 use Rattle.rules.proofs.Kept.{Same, Next, Shaped, relation-shaped, formed-by, head-kept, same-self, same-status, same-approved, same-offered, same-bidden, fitting-profile, fitting-force, fitting-granted, next-own, next-displace, next-annul, next-reduce, next-confirm, next-then-confirm, next-then-status}
 
 -- either of two ledgers
@@ -194,48 +191,30 @@ kind-next {l} F w a actor =
     (next-choice (eqb (a .kind) 6) _ _ (λ e. lapse-next F a (lapse-passed (hours l) l a e))
     (next-choice (eqb (a .kind) 7) _ _ (λ e. clock-next F a (clock-passed l a e)) (λ e. next-self F)))))))
 
--- ---- the last check: no available or displaced word over the bound
--- the words of a profile's span are within the bound, so all of it is
-span-most : {H : ℕ} {r : List ℕ} → Spanned H r → FormedHours H r → (p h : ℕ) → p < profiles → h < H → within mostMegawatts (span H p r) ≡ true → getD r (hourAt H p h) 0 ≤ mostMegawatts
-unfolding span
-span-most {H} {r} s f p h plt hlt e = go (lt-or-le h (start r)) (lt-or-le h (stop r))
-  where
-    go : (h < start r) ⊎ (start r ≤ h) → (h < stop r) ⊎ (stop r ≤ h) → getD r (hourAt H p h) 0 ≤ mostMegawatts
-    go (inl u) v = omega (arith, f .outside p h plt hlt (inl u))
-    go (inr u) (inr v) = omega (arith, f .outside p h plt hlt (inr v))
-    go (inr u) (inl v) =
-        let k : h - start r < spanHours r = omega arith in
-        let i : hourAt H p (start r) + (h - start r) ≡ hourAt H p h = omega arith in
-        let w = part-at r (hourAt H p (start r)) (spanHours r) (span-room s plt) (h - start r) k in
-        let z = part-length r (hourAt H p (start r)) (spanHours r) (span-room s plt) in
-        omega (arith, w, ap (λ (j : ℕ). getD r j 0) i, within-at mostMegawatts (span H p r) e (h - start r) (omega (arith, z)))
-
+-- ---- the last check: no available, displaced or reduced word over the bound
 module _ {l : List ℕ} (F : Formed l) (e : carriesOver (hours l) l ≡ false) where
-  carried : (n : ℕ) → n < used l → (within mostMegawatts (available (hours l) (row (hours l) l n)) ≡ true) × (within mostMegawatts (displaced (hours l) (row (hours l) l n)) ≡ true)
-  unfolding carriesOver
-  carried n lt =
-      let t = all-at (λ n. within mostMegawatts (available (hours l) (row (hours l) l n)) && within mostMegawatts (displaced (hours l) (row (hours l) l n))) (used l) n (not-false _ e) lt in
-      (and-left _ _ t, and-right (within mostMegawatts (available (hours l) (row (hours l) l n))) _ t)
+  -- in the span of a row
+  carried : (n : ℕ) → n < used l → Bounded (hours l) (row (hours l) l n)
+  carried = carries-false (hours l) l e
 
   pub sound-of : SoundLedger l
   sound-of = record {
     head = F .head;
     words = F .words;
-    profiles = λ n lt. record { most = λ p h plt hlt. most n lt p h plt hlt (lt-or-le p availablePart) (ℕ-discrete p availablePart); outside = F .profiles n lt .outside };
+    profiles = λ n lt. record { most = λ p h plt hlt. most n lt p h plt hlt (lt-or-le p availablePart); outside = F .profiles n lt .outside };
     relations = F .relations;
     unused = F .unused;
   }
     where
-      over : (n : ℕ) → n < used l → (p h : ℕ) → p < profiles → h < hours l → within mostMegawatts (span (hours l) p (row (hours l) l n)) ≡ true → getD (row (hours l) l n) (hourAt (hours l) p h) 0 ≤ mostMegawatts
-      over n lt p h plt hlt w = span-most (row-spanned F lt) (F .profiles n lt) p h plt hlt w
-
-      most : (n : ℕ) → n < used l → (p h : ℕ) → p < profiles → h < hours l → (p < availablePart) ⊎ (availablePart ≤ p) → Dec (p ≡ availablePart) → getD (row (hours l) l n) (hourAt (hours l) p h) 0 ≤ mostMegawatts
-      most n lt p h plt hlt (inl u) d = F .profiles n lt .most p h u hlt
-      most n lt p h plt hlt (inr u) (yes q) =
-          over n lt p h plt hlt (subst (λ (i : ℕ). within mostMegawatts (span (hours l) i (row (hours l) l n)) ≡ true) (sym q) (carried n lt .0))
-      most n lt p h plt hlt (inr u) (no q) =
-          let d : displacedPart ≡ p = omega (arith, q) in
-          over n lt p h plt hlt (subst (λ (i : ℕ). within mostMegawatts (span (hours l) i (row (hours l) l n)) ≡ true) d (carried n lt .1))
+      -- in the span, and outside it
+      most : (n : ℕ) → n < used l → (p h : ℕ) → p < profiles → h < hours l → (p < availablePart) ⊎ (availablePart ≤ p) → getD (row (hours l) l n) (hourAt (hours l) p h) 0 ≤ mostMegawatts
+      most n lt p h plt hlt (inl u) = F .profiles n lt .most p h u hlt
+      most n lt p h plt hlt (inr u) = go (lt-or-le h (start (row (hours l) l n))) (lt-or-le h (stop (row (hours l) l n)))
+        where
+          go : (h < start (row (hours l) l n)) ⊎ (start (row (hours l) l n) ≤ h) → (h < stop (row (hours l) l n)) ⊎ (stop (row (hours l) l n) ≤ h) → getD (row (hours l) l n) (hourAt (hours l) p h) 0 ≤ mostMegawatts
+          go (inl x) y = omega (arith, F .profiles n lt .outside p h plt hlt (inl x))
+          go (inr x) (inr y) = omega (arith, F .profiles n lt .outside p h plt hlt (inr y))
+          go (inr x) (inl y) = carried n lt .most p h u plt x y
 
 last-passed : (H : ℕ) (l : List ℕ) → lastNumber H l ≡ 0 → carriesOver H l ≡ false
 unfolding lastNumber

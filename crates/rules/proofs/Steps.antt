@@ -13,7 +13,7 @@ use borrow.Author.Tests.{not-false, eqb-true, eq-eqb, ne-eqb}
 use Rattle.words.specs.Lists.{covered}
 use Rattle.words.proofs.Laws.{lt-or-le}
 use Rattle.rules.specs.Pick.{pick}
-use Rattle.rules.specs.Numbers.{grantedPart, availablePart, displacedPart, RELINQUISH}
+use Rattle.rules.specs.Numbers.{grantedPart, availablePart, displacedPart, reducedPart, RELINQUISH}
 use Rattle.rules.specs.Layout.{used, row, onRow, reqtype, status, related, start, relatedRow, spanHours, hoursOf, standing}
 use Rattle.rules.specs.Sound.{original}
 use Rattle.rules.specs.Moves.{isConfirmed}
@@ -23,7 +23,7 @@ use Rattle.column.specs.Column.{Col, share, Off}
 use Rattle.column.specs.Use.{Tested}
 use Rattle.column.specs.Step.{OutStays, RedStays, Top, Child, Give, Step, top, child, give}
 use Rattle.rules.proofs.Seen.{Seen, at}
-use Rattle.rules.proofs.Writes.{words, megawatts, seen-taken, seen-given, seen-held, seen-emptied, covered-hour, returned, returned-available, returned-granted, word-of, hour-of}
+use Rattle.rules.proofs.Writes.{words, megawatts, seen-taken, seen-given, seen-held, seen-emptied, covered-hour, returned, returned-available, returned-other, word-of, hour-of}
 use Rattle.rules.proofs.Turned.{Turned, turned, kept-word, still}
 use Rattle.rules.proofs.View.{view}
 use Rattle.rules.proofs.Types.{original-type, derived-type}
@@ -163,6 +163,7 @@ module _ {R H : ℕ} {l : List ℕ} {n : ℕ} (o : Placed R H l n) (mw : List �
           after = word-of (T .own) K 1 (lit< tt);
           a = hour-of (T .own) K availablePart (lit< tt) ∙ sym (hour-of (T .own) K grantedPart (lit< tt));
           d = hour-of (T .own) K displacedPart (lit< tt);
+          r = hour-of (T .own) K reducedPart (lit< tt);
           rest = λ m ne. still H h l (confirmOriginal H n mw l) out out′ red red′ m (T .other m ne);
           outs = outs;
           reds = reds;
@@ -193,11 +194,13 @@ module _ {R H : ℕ} {l : List ℕ} {n : ℕ} (o : Placed R H l n) (mw : List �
             after = word-of (T2 .own) K 1 (lit< tt);
             a = hour-of (T2 .own) K availablePart (lit< tt) ∙ sym (hour-of (T2 .own) K grantedPart (lit< tt));
             d = hour-of (T2 .own) K displacedPart (lit< tt);
+            r = hour-of (T2 .own) K reducedPart (lit< tt);
             p-before = confirms H l n ok t;
             p-after = word-of P (takes t) 1 (lit< tt) ∙ confirms H l n ok t;
             p-g = hour-of P (takes t) grantedPart (lit< tt);
             p-a = omega (arith, hour-of P (takes t) availablePart (lit< tt), hour-of (T2 .own) K grantedPart (lit< tt), enough t ample);
             p-d = hour-of P (takes t) displacedPart (lit< tt);
+            p-r = hour-of P (takes t) reducedPart (lit< tt);
             rest = λ m e e′. still H h l (confirmDerived H n mw l) out out′ red red′ m (T2 .other m e ∙ T1 .other m e′);
             outs = outs;
             reds = reds;
@@ -232,14 +235,17 @@ module _ {R H : ℕ} {l : List ℕ} {n : ℕ} (o : Placed R H l n) (mw : List �
             after = word-of (T3 .own) K 1 (lit< tt);
             a = omega (arith, hour-of (T3 .own) K availablePart (lit< tt));
             d = hour-of (T3 .own) K displacedPart (lit< tt);
+            r = hour-of (T3 .own) K reducedPart (lit< tt);
             q-before = confirms H l n ok t;
             q-after = word-of P (takes t) 1 (lit< tt) ∙ confirms H l n ok t;
             q-g = hour-of P (takes t) grantedPart (lit< tt);
             q-a = omega (arith, hour-of P (takes t) availablePart (lit< tt), own, enough t ample);
             q-d = hour-of P (takes t) displacedPart (lit< tt);
+            q-r = hour-of P (takes t) reducedPart (lit< tt);
             p-st = word-of Q G 1 (lit< tt);
             p-a = λ z. hour-of Q G availablePart (lit< tt) ∙ returned-available (megawatts H h (row H l q)) y (row H l q) z ∙ ap (λ (x : ℕ). megawatts H h (row H l q) availablePart + x) (sym own);
-            p-g = hour-of Q G grantedPart (lit< tt) ∙ returned-granted (megawatts H h (row H l q)) _ (row H l q);
+            p-g = hour-of Q G grantedPart (lit< tt) ∙ returned-other (megawatts H h (row H l q)) _ (row H l q) grantedPart (λ e. omega (arith, e)) (λ e. omega (arith, e));
+            p-r = hour-of Q G reducedPart (lit< tt) ∙ returned-other (megawatts H h (row H l q)) _ (row H l q) reducedPart (λ e. omega (arith, e)) (λ e. omega (arith, e));
             p-ad = omega (arith, hour-of Q G availablePart (lit< tt), hour-of Q G displacedPart (lit< tt), own, returned (megawatts H h (row H l q)) y (row H l q));
             rest = λ m nn np nq. still H h l (confirmRelinquish H n mw l) out out′ red red′ m (T3 .other m nn ∙ T2 .other m nq ∙ T1 .other m np);
             outs = outs;

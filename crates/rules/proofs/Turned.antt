@@ -6,7 +6,7 @@ use Prim.Native.Nat.{ℕ, _+_, _<_}
 use native.Mathlib.Decide.{ℕ-discrete}
 use lib.ListN.{length, getD}
 use lib.IntN.{ℤ}
-use Rattle.rules.specs.Numbers.{headWords}
+use Rattle.rules.specs.Numbers.{headWords, grantedPart, availablePart, displacedPart, reducedPart}
 use Rattle.rules.specs.Layout.{row, onRow, rowSize, hourAt, Sized}
 use Rattle.rules.proofs.Rows.{on-sized, on-own, on-other, on-head}
 use Rattle.column.specs.Column.{Col}
@@ -48,7 +48,8 @@ kept-word {R} {H} {l} {l′} {n} {r} {r₀} t b k e m = go (ℕ-discrete m n)
 pub still : (H h : ℕ) (l l′ : List ℕ) (out out′ : ℕ → ℕ → ℤ) (red red′ : ℕ → ℤ) (n : ℕ) → row H l′ n ≡ row H l n → Still (view H h l out red) (view H h l′ out′ red′) n
 still H h l l′ out out′ red red′ n e = record {
   st = ap (λ (x : List ℕ). getD x 1 0) e;
-  g = ap (λ (x : List ℕ). getD x (hourAt H 1 h) 0) e;
-  a = ap (λ (x : List ℕ). getD x (hourAt H 2 h) 0) e;
-  d = ap (λ (x : List ℕ). getD x (hourAt H 3 h) 0) e;
+  g = ap (λ (x : List ℕ). getD x (hourAt H grantedPart h) 0) e;
+  a = ap (λ (x : List ℕ). getD x (hourAt H availablePart h) 0) e;
+  d = ap (λ (x : List ℕ). getD x (hourAt H displacedPart h) 0) e;
+  r = ap (λ (x : List ℕ). getD x (hourAt H reducedPart h) 0) e;
 }

@@ -1,5 +1,5 @@
--- A write in a row that moves no megawatts: it keeps type, related reference, span, path, available and displaced, all
--- that confirming and the checks of paths and of the last 1 read of the row.
+-- A write in a row that moves no megawatts: it keeps type, related reference, span, path and the profiles from
+-- available on, all that confirming and the checks of paths and of the last 1 read of the row.
 use mathlib.Core.Path.{_≡_, refl, sym, ap, _∙_}
 use mathlib.Core.Logic.{_≢_}
 use mathlib.Core.Bool.{Bool, true, false, _||_}
@@ -11,7 +11,7 @@ use lib.ListN.{length, getD, set, length-set}
 use lib.Seq.{getD-set-other}
 use Rattle.words.proofs.Laws.{splice-before, splice-after}
 use Rattle.rules.specs.Pick.{when}
-use Rattle.rules.specs.Numbers.{rowWords, grantedPart, availablePart, displacedPart, requestedPart, grantedGiven, offerGiven}
+use Rattle.rules.specs.Numbers.{rowWords, grantedPart, availablePart, requestedPart, grantedGiven, offerGiven}
 use Rattle.rules.specs.Layout.{rowSize, row, onRow, rowOf, relatedRow, Sized, reqtype, related, start, stop, path, flags, flagged, raise, setStatus, hourAt, setHours}
 use Rattle.rules.specs.Megawatts.{grant}
 use Rattle.rules.specs.Checks.{profile, comes}
@@ -29,8 +29,7 @@ pub record Unmoved (H : ℕ) (r q : List ℕ) : Type 0 where
   pub same-start : start q ≡ start r
   pub same-stop : stop q ≡ stop r
   pub same-path : path q ≡ path r
-  pub same-available : (h : ℕ) → h < H → getD q (hourAt H availablePart h) 0 ≡ getD r (hourAt H availablePart h) 0
-  pub same-displaced : (h : ℕ) → h < H → getD q (hourAt H displacedPart h) 0 ≡ getD r (hourAt H displacedPart h) 0
+  pub same-hour : (p h : ℕ) → availablePart ≤ p → getD q (hourAt H p h) 0 ≡ getD r (hourAt H p h) 0
 
 -- no write, and one write after another
 pub unmoved-self : {H : ℕ} {r : List ℕ} → length r ≡ rowSize H → Unmoved H r r
@@ -41,8 +40,7 @@ unmoved-self e = record {
   same-start = refl;
   same-stop = refl;
   same-path = refl;
-  same-available = λ h lt. refl;
-  same-displaced = λ h lt. refl;
+  same-hour = λ p h low. refl;
 }
 
 pub unmoved-then : {H : ℕ} {r q t : List ℕ} → Unmoved H r q → Unmoved H q t → Unmoved H r t
@@ -53,8 +51,7 @@ unmoved-then a b = record {
   same-start = b .same-start ∙ a .same-start;
   same-stop = b .same-stop ∙ a .same-stop;
   same-path = b .same-path ∙ a .same-path;
-  same-available = λ h lt. b .same-available h lt ∙ a .same-available h lt;
-  same-displaced = λ h lt. b .same-displaced h lt ∙ a .same-displaced h lt;
+  same-hour = λ p h low. b .same-hour p h low ∙ a .same-hour p h low;
 }
 
 -- a write that is made only where the test holds
@@ -72,8 +69,7 @@ module _ {H : ℕ} {r : List ℕ} (e : length r ≡ rowSize H) where
     same-start = getD-set-other r k 5 v 0 (λ z. n5 (sym z));
     same-stop = getD-set-other r k 6 v 0 (λ z. n6 (sym z));
     same-path = getD-set-other r k 11 v 0 (λ z. n11 (sym z));
-    same-available = λ h hlt. getD-set-other r k (hourAt H availablePart h) v 0 (λ z. omega (arith, z, lt));
-    same-displaced = λ h hlt. getD-set-other r k (hourAt H displacedPart h) v 0 (λ z. omega (arith, z, lt));
+    same-hour = λ p h low. getD-set-other r k (hourAt H p h) v 0 (λ z. omega (arith, z, lt));
   }
 
   -- hours of requested or granted
@@ -86,8 +82,7 @@ module _ {H : ℕ} {r : List ℕ} (e : length r ≡ rowSize H) where
     same-start = splice-before r (hourAt H p s) v room 5 (omega arith);
     same-stop = splice-before r (hourAt H p s) v room 6 (omega arith);
     same-path = splice-before r (hourAt H p s) v room 11 (omega arith);
-    same-available = λ h hlt. splice-after r (hourAt H p s) v room (hourAt H availablePart h) (omega (arith, hour-apart H plt, fits));
-    same-displaced = λ h hlt. splice-after r (hourAt H p s) v room (hourAt H displacedPart h) (omega (arith, hour-apart H plt, fits));
+    same-hour = λ q h low. let apart : p < q = omega (arith, plt, low) in splice-after r (hourAt H p s) v room (hourAt H q h) (omega (arith, hour-apart H apart, fits));
   }
     where
       room : hourAt H p s + length v ≤ length r

@@ -6,7 +6,7 @@ use lib.IntN.{ℤ, pos}
 use Rattle.words.specs.Lists.{wordAt}
 use Rattle.column.specs.Column.{Col}
 use Rattle.rules.specs.Pick.{pick}
-use Rattle.rules.specs.Numbers.{grantedPart, availablePart, displacedPart}
+use Rattle.rules.specs.Numbers.{grantedPart, availablePart, displacedPart, reducedPart}
 use Rattle.rules.specs.Layout.{used, row, reqtype, status, related, path, hourAt}
 use Rattle.rules.specs.Tally.{Tally, reducedSum}
 
@@ -21,6 +21,7 @@ view H h l out red = record {
   g = λ n. wordAt (row H l n) (hourAt H grantedPart h);
   a = λ n. wordAt (row H l n) (hourAt H availablePart h);
   d = λ n. wordAt (row H l n) (hourAt H displacedPart h);
+  r = λ n. wordAt (row H l n) (hourAt H reducedPart h);
   out = out;
   red = red;
 }

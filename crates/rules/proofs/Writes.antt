@@ -1,6 +1,6 @@
 -- What is seen of a row at hour h after each of the rules' writes in it.
-use mathlib.Core.Path.{_≡_, refl, sym, ap, _∙_}
-use mathlib.Core.Logic.{_⊎_, ⊎-elim, inl, inr}
+use mathlib.Core.Path.{_≡_, sym, ap, _∙_}
+use mathlib.Core.Logic.{_≢_, _⊎_, ⊎-elim, inl, inr}
 use mathlib.Core.Bool.{Bool, true, false}
 use mathlib.Core.List.{List}
 use Prim.Native.Nat.{ℕ, _+_, _-_, _≤_, _<_}
@@ -11,11 +11,11 @@ use lib.ListN.{length, getD}
 use Rattle.words.specs.Lists.{covered}
 use Rattle.words.proofs.Laws.{lt-or-le, covered-at, part-at}
 use Rattle.rules.specs.Pick.{pick}
-use Rattle.rules.specs.Numbers.{rowWords, profiles, grantedPart, availablePart, displacedPart, requestedPart, offerGiven, grantedGiven}
+use Rattle.rules.specs.Numbers.{rowWords, profiles, grantedPart, availablePart, displacedPart, reducedPart, requestedPart, offerGiven, grantedGiven}
 use Rattle.rules.specs.Layout.{rowSize, reqtype, status, start, stop, flags, flagged, spanHours, hourAt, hoursOf, span, available, standing}
 use Rattle.rules.specs.Moves.{isConfirmed}
-use Rattle.rules.proofs.Seen.{Room, Seen, at, hour-in, seen-self, seen-set, seen-put, seen-less, seen-add, seen-clear, standing-in, standing-off}
-use Rattle.rules.specs.Megawatts.{grant, takeFrom, returnsTo, giveBack, displacedRow, annulledRow}
+use Rattle.rules.proofs.Seen.{Room, Seen, at, at-other, hour-in, seen-self, seen-set, seen-put, seen-less, seen-add, seen-clear, standing-in, standing-off}
+use Rattle.rules.specs.Megawatts.{grant, takeFrom, returnsTo, giveBack, displacedRow, annulledRow, reducedRow}
 use Rattle.rules.specs.Confirming.{held, emptied}
 
 -- a row's words, and its profiles' words at hour h
@@ -37,6 +37,11 @@ module _ {H h s : ℕ} {g r : List ℕ} (hlt : h < H) (m : Room H s g r) where
   pub seen-taken : Seen H h (takeFrom H s g r) (words r) (at (megawatts H h r) availablePart (megawatts H h r availablePart - standing s g h))
   unfolding takeFrom
   seen-taken = seen-less (seen-self H h r (m .long)) hlt availablePart s g (lit< tt) (m .fits)
+
+  pub seen-reduced : Seen H h (reducedRow H s g r) (words r)
+      (at (at (megawatts H h r) availablePart (megawatts H h r availablePart - standing s g h)) reducedPart (megawatts H h r reducedPart + standing s g h))
+  unfolding reducedRow
+  seen-reduced = seen-add seen-taken hlt reducedPart s g (lit< tt) (m .fits)
 
   pub seen-given : Seen H h (giveBack H s g r) (words r) (at (megawatts H h r) (returnsTo r) (megawatts H h r (returnsTo r) + standing s g h))
   unfolding giveBack
@@ -89,13 +94,14 @@ pub returned-available : (x : ℕ → ℕ) (z : ℕ) (r : List ℕ) → status r
 unfolding returnsTo isConfirmed
 returned-available x z r e = ap (λ (t : Bool). at x (pick t availablePart displacedPart) (x (pick t availablePart displacedPart) + z) availablePart) (eq-eqb (status r) 13 e)
 
-pub returned-granted : (x : ℕ → ℕ) (z : ℕ) (r : List ℕ) → at x (returnsTo r) z grantedPart ≡ x grantedPart
+-- the other profiles stay
+pub returned-other : (x : ℕ → ℕ) (z : ℕ) (r : List ℕ) (p : ℕ) → p ≢ availablePart → p ≢ displacedPart → at x (returnsTo r) z p ≡ x p
 unfolding returnsTo
-returned-granted x z r = go (isConfirmed r)
+returned-other x z r p a d = go (isConfirmed r)
   where
-    go : (t : Bool) → at x (pick t availablePart displacedPart) z grantedPart ≡ x grantedPart
-    go true = refl
-    go false = refl
+    go : (t : Bool) → at x (pick t availablePart displacedPart) z p ≡ x p
+    go true = at-other x availablePart z a
+    go false = at-other x displacedPart z d
 
 -- what is seen of a row that became r
 pub word-of : {H h : ℕ} {q r : List ℕ} {w x : ℕ → ℕ} → q ≡ r → Seen H h r w x → (k : ℕ) → k < rowWords → getD q k 0 ≡ w k

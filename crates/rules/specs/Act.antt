@@ -72,7 +72,7 @@ overUse H l a next ps =
 unfoldable pub useNumber : ℕ → List ℕ → Action → List ℕ → List ℕ → ℕ
 useNumber H l a next ps = 22 onlyIf overUse H l a next ps
 
--- 1: the action would carry an available or displaced word over 100,000 (judged last)
+-- 1: the action would carry an available, displaced or reduced word over 100,000 (judged last)
 unfoldable pub lastNumber : ℕ → List ℕ → ℕ
 lastNumber H next = 1 onlyIf carriesOver H next
 

@@ -8,7 +8,7 @@ use lib.Dec.{eqb}
 use lib.IntN.{ℤ, pos, negsuc, _+ℤ_}
 use Rattle.rules.specs.Pick.{pick, _among_}
 use Rattle.words.specs.Lists.{wordAt}
-use Rattle.rules.specs.Numbers.{grantedPart, availablePart, displacedPart, CONFIRMED, DISPLACED, RELINQUISH}
+use Rattle.rules.specs.Numbers.{grantedPart, availablePart, displacedPart, reducedPart, CONFIRMED, DISPLACED, RELINQUISH}
 use Rattle.rules.specs.Layout.{hours, used, rowOf, row, reqtype, status, related, hourAt}
 use Rattle.rules.specs.Create.{goodNumbers, fresh}
 use Rattle.rules.specs.Sound.{original}
@@ -42,9 +42,16 @@ unfoldable pub sumTo : ℕ → (ℕ → ℤ) → ℤ
 sumTo zero f = pos 0
 sumTo (suc r) f = sumTo r f +ℤ f (suc r)
 
--- available, displaced and reduced of reference r in hour h
-unfoldable pub holding : List ℕ → Tally → ℕ → ℕ → ℤ
-holding l t h r = pos (wordIn l r availablePart h) +ℤ pos (wordIn l r displacedPart h) +ℤ t r .sum reducedSum h
+-- what was reduced of reference r in hour h: by the tally, and by its row
+unfoldable pub tallied : Tally → ℕ → ℕ → ℤ
+tallied t r h = t r .sum reducedSum h
+
+unfoldable pub stored : List ℕ → ℕ → ℕ → ℤ
+stored l r h = pos (wordIn l r reducedPart h)
+
+-- available, displaced and reduced of reference r in hour h; reduced is given
+unfoldable pub holding : List ℕ → (ℕ → ℕ → ℤ) → ℕ → ℕ → ℤ
+holding l reduced h r = pos (wordIn l r availablePart h) +ℤ pos (wordIn l r displacedPart h) +ℤ reduced r h
 
 -- entry and row have the same type, status, related reference and granted
 pub record SameEntry (l : List ℕ) (t : Tally) (r : ℕ) : Type 0 where
@@ -53,13 +60,16 @@ pub record SameEntry (l : List ℕ) (t : Tally) (r : ℕ) : Type 0 where
   pub relations : t r .related ≡ related (rowIn l r)
   pub grants : (h : ℕ) → h < hours l → grantedIn (t r) h ≡ wordIn l r grantedPart h
 
--- granted is available, displaced and the five, none of which is negative
-pub record Whole (l : List ℕ) (t : Tally) (r h : ℕ) : Type 0 where
-  pub balances :
-      pos (grantedIn (t r) h)
-      ≡ pos (wordIn l r availablePart h) +ℤ pos (wordIn l r displacedPart h)
-      +ℤ t r .sum resoldSum h +ℤ t r .sum redirectedSum h +ℤ t r .sum transferredSum h +ℤ t r .sum relinquishedSum h
-      +ℤ t r .sum reducedSum h
+-- granted is available, displaced and the five, of which reduced is given
+unfoldable pub Whole : List ℕ → Tally → (ℕ → ℕ → ℤ) → ℕ → ℕ → Type 0
+Whole l t reduced r h =
+    pos (grantedIn (t r) h)
+    ≡ pos (wordIn l r availablePart h) +ℤ pos (wordIn l r displacedPart h)
+    +ℤ t r .sum resoldSum h +ℤ t r .sum redirectedSum h +ℤ t r .sum transferredSum h +ℤ t r .sum relinquishedSum h
+    +ℤ reduced r h
+
+-- none of the five is negative
+pub record Five (t : Tally) (r h : ℕ) : Type 0 where
   pub resold : NotNegative (t r .sum resoldSum h)
   pub redirected : NotNegative (t r .sum redirectedSum h)
   pub transferred : NotNegative (t r .sum transferredSum h)
@@ -67,16 +77,22 @@ pub record Whole (l : List ℕ) (t : Tally) (r h : ℕ) : Type 0 where
   pub reduced : NotNegative (t r .sum reducedSum h)
 
 -- granted of an original is what it and all that descend from it hold
-unfoldable pub Tree : List ℕ → Tally → ℕ → ℕ → Type 0
-Tree l t o h =
-    pos (grantedIn (t o) h) ≡ sumTo (used l) (λ r. pick (descends t o r) (holding l t h r) (pos 0))
+unfoldable pub Tree : List ℕ → Tally → (ℕ → ℕ → ℤ) → ℕ → ℕ → Type 0
+Tree l t reduced o h =
+    pos (grantedIn (t o) h) ≡ sumTo (used l) (λ r. pick (descends t o r) (holding l reduced h r) (pos 0))
 
--- the ledger and the tally balance: an entry for each used row and for nothing else; the equation of each confirmed or displaced row but relinquish records; the tree sum of each confirmed or displaced original
+-- the ledger and the tally balance
 pub record Balanced (l : List ℕ) (t : Tally) : Type 0 where
+  -- an entry for each used row, and for nothing else
   pub entries : (r : ℕ) → 1 ≤ r → r ≤ used l → SameEntry l t r
   pub others : (r : ℕ) → (r ≡ 0) ⊎ (used l < r) → t r .reqtype ≡ 0
-  pub whole : (r h : ℕ) → 1 ≤ r → r ≤ used l → h < hours l → live (t r .status) ≡ true → t r .reqtype ≢ RELINQUISH → Whole l t r h
-  pub trees : (o h : ℕ) → 1 ≤ o → o ≤ used l → h < hours l → live (t o .status) ≡ true → original (t o .reqtype) ≡ true → Tree l t o h
+  -- of each entry, in every hour: the reduced word of its row is the tally's reduced, and none of the five is negative
+  pub reductions : (r h : ℕ) → 1 ≤ r → r ≤ used l → h < hours l → stored l r h ≡ tallied t r h
+  pub fives : (r h : ℕ) → 1 ≤ r → r ≤ used l → h < hours l → Five t r h
+  -- the equation of each confirmed or displaced row but relinquish records: by the tally's reduced, and by the rows'
+  pub whole : (r h : ℕ) → 1 ≤ r → r ≤ used l → h < hours l → live (t r .status) ≡ true → t r .reqtype ≢ RELINQUISH → Whole l t (tallied t) r h × Whole l t (stored l) r h
+  -- the tree sum of each confirmed or displaced original: likewise
+  pub trees : (o h : ℕ) → 1 ≤ o → o ≤ used l → h < hours l → live (t o .status) ≡ true → original (t o .reqtype) ≡ true → Tree l t (tallied t) o h × Tree l t (stored l) o h
 
 abbrev pub BalancedRun : Run → Type 0
 BalancedRun run = Balanced (run .ledger) (tally (run .done))

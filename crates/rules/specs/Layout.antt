@@ -7,7 +7,7 @@ use lib.Dec.{eqb, ltb}
 use lib.ListN.{length, set}
 use Rattle.words.specs.Lists.{wordAt, part, splice, zip2, noughts}
 use Rattle.rules.specs.Pick.{pick, _isFrom_to_}
-use Rattle.rules.specs.Numbers.{headWords, rowWords, profiles, mostRows, mostHours, requestedPart, grantedPart, availablePart, displacedPart}
+use Rattle.rules.specs.Numbers.{headWords, rowWords, profiles, mostRows, mostHours, requestedPart, grantedPart, availablePart, displacedPart, reducedPart}
 
 -- the head: R, H, provider, window, base, now, rows used, 0
 abbrev pub rows : List ℕ → ℕ
@@ -151,6 +151,9 @@ available H r = span H availablePart r
 
 abbrev pub displaced : ℕ → List ℕ → List ℕ
 displaced H r = span H displacedPart r
+
+abbrev pub reduced : ℕ → List ℕ → List ℕ
+reduced H r = span H reducedPart r
 
 -- the row with the words v in profile p from hour s on; with v added there; with v taken off; with n zeros
 unfoldable pub setHours : ℕ → ℕ → ℕ → List ℕ → List ℕ → List ℕ

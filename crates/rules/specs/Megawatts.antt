@@ -4,8 +4,8 @@ use mathlib.Core.List.{List}
 use Prim.Native.Nat.{ℕ}
 use Rattle.words.specs.Lists.{allBelow, within}
 use Rattle.rules.specs.Pick.{pick, _then_, when}
-use Rattle.rules.specs.Numbers.{mostMegawatts, grantedGiven, grantedPart, availablePart, displacedPart, DISPLACED, ANNULLED}
-use Rattle.rules.specs.Layout.{used, row, onRow, reqtype, start, spanHours, relatedRow, has, setStatus, raise, requested, granted, available, displaced, setHours, addHours, lessHours, clearHours}
+use Rattle.rules.specs.Numbers.{mostMegawatts, grantedGiven, grantedPart, availablePart, displacedPart, reducedPart, DISPLACED, ANNULLED}
+use Rattle.rules.specs.Layout.{used, row, onRow, reqtype, start, spanHours, relatedRow, has, setStatus, raise, requested, granted, available, displaced, reduced, setHours, addHours, lessHours, clearHours}
 use Rattle.rules.specs.Sound.{original}
 use Rattle.rules.specs.Moves.{isConfirmed}
 
@@ -48,11 +48,18 @@ annul H n l =
     l then when (not (original (reqtype r))) (onRow H (relatedRow H l n) (giveBack H (start r) (granted H r)))
     then onRow H n (annulledRow H)
 
--- Reducing subtracts a profile from available
-unfoldable pub reduce : ℕ → ℕ → List ℕ → List ℕ → List ℕ
-reduce H n mw l = l then onRow H n (takeFrom H (start (row H l n)) mw)
+-- Reducing subtracts a profile from available and adds it to reduced
+unfoldable pub reducedRow : ℕ → ℕ → List ℕ → List ℕ → List ℕ
+reducedRow H s mw r = r then takeFrom H s mw then addHours H reducedPart s mw
 
--- an available or displaced word over 100,000
+unfoldable pub reduce : ℕ → ℕ → List ℕ → List ℕ → List ℕ
+reduce H n mw l = l then onRow H n (reducedRow H (start (row H l n)) mw)
+
+-- the available, displaced and reduced words of row r are at most 100,000
+unfoldable pub bearable : ℕ → List ℕ → Bool
+bearable H r =
+    within mostMegawatts (available H r) && (within mostMegawatts (displaced H r) && within mostMegawatts (reduced H r))
+
+-- an available, displaced or reduced word over 100,000
 unfoldable pub carriesOver : ℕ → List ℕ → Bool
-carriesOver H l =
-    not (allBelow (used l) (λ n. within mostMegawatts (available H (row H l n)) && within mostMegawatts (displaced H (row H l n))))
+carriesOver H l = not (allBelow (used l) (λ n. bearable H (row H l n)))

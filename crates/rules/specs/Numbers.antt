@@ -14,7 +14,7 @@ abbrev pub usedWords : ℕ
 usedWords = 12
 
 abbrev pub profiles : ℕ
-profiles = 4
+profiles = 5
 
 -- greatest values; the year 2099 ends with endHour and endSecond
 abbrev pub mostRows : ℕ
@@ -90,6 +90,9 @@ availablePart = 2
 
 abbrev pub displacedPart : ℕ
 displacedPart = 3
+
+abbrev pub reducedPart : ℕ
+reducedPart = 4
 
 -- statuses that rules name alone; DISPLACED the status and displaced the profile are two things
 abbrev pub QUEUED : ℕ

@@ -11,7 +11,7 @@ use native.Mathlib.Omega.{arith}
 use lib.ListN.{length, getD, set, take, drop, length-append, length-take, length-drop, length-set, List·getD-append, List·getD-eq-default, take-append-drop}
 use borrow.Author.Count.{below-none, below-more}
 use lib.Dec.{leb, eqb}
-use borrow.Author.Tests.{leb-true, le-leb, eq-eqb, eqb-true}
+use borrow.Author.Tests.{leb-true, le-leb, lt-leb, eq-eqb, eqb-true}
 use lib.Seq.{append-snoc, set-split, set-at, drop-cons, getD-at, getD-append-add, getD-take, getD-drop, ext-getD, drop-length, length-take-le, drop-drop}
 use Rattle.words.specs.Lists.{part, splice, build, zip2, allBelow, firstBelow, sumBelow, noughts, every, covered, equal, roomy, within, zeros, total}
 
@@ -552,8 +552,21 @@ unfolding allBelow
 gathering-turn {n} {p} {end} {b} {i} h lt =
     record { ended = h .ended; below = omega arith; is = ap (λ (x : Bool). x && p i) (h .is) ∙ ap (λ (k : ℕ). allBelow k p) (sym (add-one i)) }
 
+-- by a test that is worked out otherwise
+pub gathering-turn-by : {n : ℕ} {p : ℕ → Bool} {end : ℕ} {b q : Bool} {i : ℕ} → Gathering n p end b i → i < end → q ≡ p i → Gathering n p end (b && q) (i + 1)
+gathering-turn-by {n} {p} {end} {b} {q} {i} h lt e = subst (λ (t : Bool). Gathering n p end (b && t) (i + 1)) (sym e) (gathering-turn h lt)
+
 pub gathering-done : {n : ℕ} {p : ℕ → Bool} {end : ℕ} {b : Bool} {i : ℕ} → Gathering n p end b i → end ≤ i → b ≡ allBelow n p
 gathering-done {n} {p} {end} {b} {i} h past = let e : i ≡ n = omega (arith, h .below, h .ended) in h .is ∙ ap (λ (k : ℕ). allBelow k p) e
+
+-- two words together are at most a bound: the first is, and the second is at most what the first leaves of it
+pub leb-add : (x y bound : ℕ) → (leb x bound && leb y (bound - x)) ≡ leb (x + y) bound
+leb-add x y bound = go (lt-or-le bound x) (lt-or-le (bound - x) y)
+  where
+    go : (bound < x) ⊎ (x ≤ bound) → (bound - x < y) ⊎ (y ≤ bound - x) → (leb x bound && leb y (bound - x)) ≡ leb (x + y) bound
+    go (inl u) v = ap (λ (b : Bool). b && leb y (bound - x)) (lt-leb x bound u) ∙ sym (lt-leb (x + y) bound (omega arith))
+    go (inr u) (inl v) = ap (λ (b : Bool). b && leb y (bound - x)) (le-leb x bound u) ∙ lt-leb y (bound - x) v ∙ sym (lt-leb (x + y) bound (omega arith))
+    go (inr u) (inr v) = ap (λ (b : Bool). b && leb y (bound - x)) (le-leb x bound u) ∙ le-leb y (bound - x) v ∙ sym (le-leb (x + y) bound (omega arith))
 
 -- ---- a total, by a bound on the words
 pub total-most : (bound : ℕ) (a : List ℕ) → within bound a ≡ true → total a ≤ length a * bound

@@ -100,13 +100,23 @@ pub fn all_equal(a: &[u32], b: &[u32]) -> bool
     ok
 }
 
+// What is left of bound beside x; nothing where x is over it.
+fn room_beside(bound: u32, x: u32) -> u32
+    ensures { λ r. ⌜ r ≡ bound - x ⌝ }
+{
+    if x <= bound {
+        return bound - x;
+    }
+    0
+}
+
 pub fn all_roomy(bound: u32, a: &[u32], b: &[u32]) -> bool
     requires { ⌜ length (now b) ≡ length (now a) ⌝ }
     ensures { λ r. ⌜ r ≡ roomy bound (now (a .entry)) (now (b .entry)) ⌝ }
 {
     let mut ok = true;
     for i in 0..a.len() {
-        ok = ok & (a[i] as u64 + b[i] as u64 <= bound as u64);
+        ok = ok & ((a[i] <= bound) & (b[i] <= room_beside(bound, a[i])));
     }
     ok
 }

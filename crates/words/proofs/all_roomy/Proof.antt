@@ -1,10 +1,13 @@
 -- `words::all_roomy` meets its contract.
+use mathlib.Core.Path.{ap, _∙_}
+use mathlib.Core.Bool.{_&&_}
 use Prim.Native.Nat.{ℕ, _+_, _-_}
 use native.Mathlib.Omega.{arith}
 use lib.Dec.{leb}
 use lib.ListN.{length, getD}
+use borrow.Author.Needs.{needs}
 use Rattle.words.specs.Lists.{roomy}
-use Rattle.words.proofs.Laws.{Gathering, gathering-start, gathering-turn, gathering-done}
+use Rattle.words.proofs.Laws.{Gathering, leb-add, gathering-start, gathering-turn-by, gathering-done}
 use Rattle.words.proofs.all_roomy.Statement.{statement}
 use Rattle.words.proofs.all_roomy.Tie as tie
 
@@ -21,12 +24,17 @@ all-roomy-spec =
     (λ c. gathering-start _ _)
     (λ c. omega arith)
     (λ c. omega arith)
-    (λ c. omega (arith, c .shared-slice-known .given (c .before .before .loop .i)))
     (λ c. omega arith)
     (λ c. omega arith)
-    (λ c. omega (arith, c .shared-slice-known2 .given (c .before .before .before .loop .i)))
-    (λ c. let i : ℕ = c .before .before .before .loop .i in omega (arith, c .shared-slice-known2 .given i, c .before .shared-slice-known .given i))
     (λ c. omega arith)
     (λ c. omega arith)
-    (λ c. gathering-turn (c .before .before .before .loop .inv) (omega arith))
+    (λ c. search needs)
+    (λ c. omega arith)
+    (λ c. omega arith)
+    (λ c.
+    let t = c .before .before .before .before .before in
+    let s = t .before .before .before in
+    let x : ℕ = getD (s .args .a .now) (t .loop .i) 0 in
+    let y : ℕ = getD (s .args .b .now) (t .loop .i) 0 in
+    gathering-turn-by (t .loop .inv) (omega arith) (ap (λ (r : ℕ). leb x (s .args .bound) && leb y r) (c .room-beside .ensures) ∙ leb-add x y (s .args .bound)))
     (λ c. gathering-done (c .before .loop .inv) (omega arith)))

@@ -1,24 +1,40 @@
 -- `megawatts::moving::reduce` meets its contract.
-use Prim.Native.Nat.{_+_, _≤_}
+use mathlib.Core.Path.{sym, ap, _∙_}
+use mathlib.Core.List.{List}
+use Prim.Native.Nat.{ℕ}
 use native.Mathlib.Omega.{arith}
-use lib.ListN.{length}
 use borrow.Author.Needs.{needs}
-use Rattle.rules.specs.Layout.{row}
-use Rattle.rules.specs.Megawatts.{reduce}
-use Rattle.megawatts.proofs.Laws.{sized, in-rows, span-fits, covered-own, placed}
+use Rattle.words.specs.Lists.{covered}
+use Rattle.rules.specs.Layout.{onRow, start, spanHours, available}
+use Rattle.rules.specs.Megawatts.{reducedRow, reduce}
+use Rattle.rules.proofs.Over.{overReducing}
+use Rattle.layout.proofs.Lent.{row-lent, row-back}
+use Rattle.megawatts.proofs.Laws.{sized, lent-spanned}
 use Rattle.megawatts.proofs.moving.reduce.Statement.{statement}
 use Rattle.megawatts.proofs.moving.reduce.Tie as tie
 
 pub reduce-spec : {M : Type 1} → statement M
-unfolding reduce
+unfolding reduce onRow
 reduce-spec =
     tie.close
     (tie.spec
-    (λ c κs. search placed)
+    (λ c κs. search needs)
+    (λ c. search needs)
+    (λ c. search needs)
+    (λ c. search needs)
+    (λ c. search needs)
+    (λ c. search needs)
+    (λ c. search needs)
+    (λ c. omega (arith, sized (c .before .before .before .pre .0) .long))
     (λ c κs.
     let t = c .before in
-    let s = t .before .before .before .before in
-    let f : t .start-of .result + length (s .args .mw .now) ≤ s .args .hours = omega (arith, t .start-of .ensures, span-fits (s .pre .0) (s .args .mw .now) (s .pre .1 .0)) in
-    (sized (s .pre .0), ((in-rows (s .pre .0), f), covered-own (s .args .hours) (row (s .args .hours) (s .args .l .now) (s .args .n)) (s .args .mw .now) (t .start-of .ensures) (s .pre .1 .0) (s .pre .1 .1))))
+    let s = t .before .before .before in
+    let k = lent-spanned (s .pre .0) (t .row-at .ensures) in
+    let e = row-lent (sized (s .pre .0)) (t .row-at .ensures) in
+    (k .0, (k .1, (s .pre .1 .0 ∙ sym (ap (λ (r : List ℕ). spanHours r) e), (ap (λ (r : List ℕ). covered (s .args .mw .now) (available (s .args .hours) r)) e ∙ s .pre .1 .1 .0, ap (λ (r : List ℕ). overReducing (s .args .hours) (s .args .mw .now) r) e ∙ s .pre .1 .1 .1)))))
     (λ c. search needs)
-    (λ c. cc (c .before .before .take-from .ensures, c .before .before .before .before .start-of .ensures)))
+    (λ c.
+    let g = c .before .before in
+    let t = g .before .before in
+    let s = t .before .before .before in
+    row-back (sized (s .pre .0)) (t .row-at .ensures) (λ r. reducedRow (s .args .hours) (start r) (s .args .mw .now) r) (g .reduce-row .last .0) (g .reduce-row .kept .0) (g .reduce-row .ensures)))

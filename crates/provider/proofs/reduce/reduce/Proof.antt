@@ -11,8 +11,9 @@ use Rattle.rules.specs.Megawatts.{reduce}
 use Rattle.rules.specs.Checks.{named, profile}
 use Rattle.rules.specs.Reduce.{reduceAfter}
 use Rattle.rules.proofs.Passed.{ReducePassed, reduce-passed, profile-length}
+use Rattle.rules.proofs.Over.{overReducing}
 use Rattle.checks.proofs.Profiles.{profile-lent}
-use Rattle.provider.proofs.Laws.{issued-known}
+use Rattle.provider.proofs.Laws.{issued-known, at-profile, over-reduce}
 use Rattle.provider.proofs.reduce.reduce.Statement.{statement}
 use Rattle.provider.proofs.reduce.reduce.Tie as tie
 
@@ -23,7 +24,7 @@ abbrev mw : tie.After-row-named → List ℕ
 mw c = take (S c .args .a .offset + S c .args .a .length - S c .args .a .offset) (drop (S c .args .a .offset) (S c .args .words .now))
 
 passed : (c : tie.Start) → ReducePassed (c .args .hours) (c .args .l .now) (c .args .words .now) (c .args .a)
-passed c = reduce-passed (c .args .hours) (c .args .l .now) (c .args .words .now) (c .args .a) (c .pre .1)
+passed c = reduce-passed (c .args .hours) (c .args .l .now) (c .args .words .now) (c .args .a) (c .pre .1 .0)
 
 whole : (c : tie.After-row-named) → mw c ≡ profile (S c .args .words .now) (S c .args .a)
 whole c = profile-lent (S c .args .words .now) (S c .args .a) (passed (S c) .profile .fits)
@@ -50,7 +51,10 @@ reduce-spec =
       t .row-named .ensures .1,
       (
         ap length (whole t) ∙ profile-length (passed s .profile) ∙ ap (λ (k : ℕ). spanHours (row (s .args .hours) (s .args .l .now) k)) (sym e),
-        ap (λ (v : List ℕ). covered v (available (s .args .hours) (row (s .args .hours) (s .args .l .now) (t .row-named .result)))) (whole t) ∙ ap (λ (k : ℕ). covered (profile (s .args .words .now) (s .args .a)) (available (s .args .hours) (row (s .args .hours) (s .args .l .now) k))) e ∙ passed s .covers,
+        (
+          at-profile (s .args .hours) (s .args .l .now) (λ v r. covered v (available (s .args .hours) r)) (whole t) e ∙ passed s .covers,
+          at-profile (s .args .hours) (s .args .l .now) (overReducing (s .args .hours)) (whole t) e ∙ sym (over-reduce (s .pre .0) (s .args .words .now) (s .args .a) (s .pre .1 .0)) ∙ s .pre .1 .1,
+        ),
       ),
     ))
     (λ c. search needs)

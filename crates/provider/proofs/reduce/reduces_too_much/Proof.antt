@@ -7,13 +7,13 @@ use native.Mathlib.Omega.{arith}
 use lib.ListN.{length, take, drop}
 use borrow.Author.Needs.{needs}
 use Rattle.words.specs.Lists.{covered}
+use Rattle.rules.specs.Numbers.{availablePart}
 use Rattle.rules.specs.Layout.{row, spanHours, available}
 use Rattle.rules.specs.Checks.{profile}
 use Rattle.rules.specs.Reduce.{reducesTooMuch}
 use Rattle.rules.proofs.Passed.{ProfilePassed, profile-passed, profile-length}
-use Rattle.megawatts.proofs.Laws.{sized, in-rows, span-fits, placed}
+use Rattle.megawatts.proofs.Laws.{sized, in-rows, span-fits, span-hours, placed}
 use Rattle.checks.proofs.Profiles.{profile-lent}
-use Rattle.provider.proofs.Laws.{covers-own}
 use Rattle.provider.proofs.reduce.reduces_too_much.Statement.{statement}
 use Rattle.provider.proofs.reduce.reduces_too_much.Tie as tie
 
@@ -54,4 +54,4 @@ reduces-too-much-spec =
     (sized (S t .pre .0), (in-rows (S t .pre .0), f)))
     (λ c.
     let t = c .before .before .before .before in
-    ap not (c .covers-at .ensures ∙ covers-own (S t .args .hours) (own t) (mw t) (t .start-of .ensures) (long t) ∙ ap (λ (v : List ℕ). covered v (available (S t .args .hours) (own t))) (whole t))))
+    ap not (c .covers-at .ensures ∙ ap (λ (v : List ℕ). covered (mw t) v) (span-hours (S t .args .hours) availablePart (own t) (t .start-of .ensures) (long t)) ∙ ap (λ (v : List ℕ). covered v (available (S t .args .hours) (own t))) (whole t))))
