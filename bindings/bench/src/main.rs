@@ -324,7 +324,7 @@ fn confirmations() {
                 || seconds(|| desk.borrow_mut().one(&[], &unknown(), 2)),
             );
         }
-        let name = format!("(g) a confirmation in a list, R 1,024, H 744, {which} on both paths");
+        let name = format!("(g) confirming, {which} on both paths");
         line(&name, &rounds, 100.0, "one soundness test", 0.5);
     }
 }

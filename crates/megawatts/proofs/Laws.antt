@@ -19,7 +19,7 @@ use Rattle.rules.specs.Megawatts.{inForce, takeFrom, returnsTo, giveBack}
 use Rattle.rules.proofs.Types.{derived-least}
 use Rattle.rules.proofs.Rows.{row-length, row-part, row-apart, on-other, on-splice}
 use Rattle.rules.proofs.Seen.{Room, hour-in, less-length, add-length}
-use Rattle.rules.proofs.Spans.{Spanned, span-length as long, less-word, less-other}
+use Rattle.rules.proofs.Spans.{Spanned, span-length as long, span-hours, less-word, less-other}
 use Rattle.rules.proofs.Writes.{returns-profile}
 use Rattle.rules.proofs.SoundFacts.{SoundWords, SoundRelation}
 use Rattle.rules.proofs.Formed.{FormedHours, formed-sized}
@@ -252,11 +252,6 @@ unfolding overAnnulling
 not-over-annulled H l n o e = and-rest _ _ (ap not o) e
 
 -- ---- reducing
--- count hours of profile p from hour s on, where these are the row's span
-pub span-hours : (H p : ℕ) (r : List ℕ) {s count : ℕ} → s ≡ start r → count ≡ spanHours r → hoursOf H p s count r ≡ span H p r
-unfolding span
-span-hours H p r {s} {count} es ec = ap (λ (x : ℕ). hoursOf H p x count r) es ∙ ap (λ (k : ℕ). hoursOf H p (start r) k r) ec
-
 -- row r, by a profile with a word for each hour of its span
 module _ {H : ℕ} (r mw : List ℕ) (long : length r ≡ rowSize H) (starts : start r < stop r) (stops : stop r ≤ H) (e : length mw ≡ spanHours r) where
   fits : start r + length mw ≤ H

@@ -17,13 +17,13 @@ use Rattle.rules.specs.Pick.{pick}
 use Rattle.rules.specs.Numbers.{profiles, requestedPart, grantedPart, availablePart, displacedPart, reducedPart, mostMegawatts, DISPLACED, ANNULLED}
 use Rattle.rules.specs.Layout.{used, row, rowSize, start, stop, hourAt, hoursOf, spanHours, span, available, displaced, reduced, standing}
 use Rattle.rules.specs.Moves.{isConfirmed}
-use Rattle.rules.specs.Megawatts.{takeFrom, returnsTo, giveBack, displacedRow, annulledRow, reducedRow, bearable, carriesOver}
+use Rattle.rules.specs.Megawatts.{takeFrom, returnsTo, giveBack, displacedRow, annulledRow, reducedRow, megawattsWithin, carriesOver}
 use Rattle.rules.specs.Confirming.{held, emptied}
 use Rattle.rules.specs.Checks.{profile}
 use Rattle.rules.specs.Submit.{newWords, newRow}
 use Rattle.rules.specs.declared.Action.{Action}
 use Rattle.rules.proofs.Seen.{Room, Seen, at, at-own, at-other, hour-in, seen-self, seen-set, seen-add, seen-clear, standing-in, standing-off, standing-before}
-use Rattle.rules.proofs.Spans.{span-length as long}
+use Rattle.rules.proofs.Spans.{span-length as long, span-hours}
 use Rattle.rules.proofs.Unmoved.{Unmoved, unmoved-hours}
 use Rattle.rules.proofs.Writes.{words, megawatts, returns-profile, seen-taken, seen-reduced, seen-given, seen-held, seen-emptied}
 
@@ -72,8 +72,8 @@ any-of P a d c p low high = go (ℕ-discrete p availablePart) (ℕ-discrete p di
     go (no n) (no m) = let e : reducedPart ≡ p = omega (arith, n, m, low, high) in subst P e c
 
 module _ (H : ℕ) (r : List ℕ) where
-  bounded-row : bearable H r ≡ true → Bounded H r
-  unfolding bearable
+  bounded-row : megawattsWithin H r ≡ true → Bounded H r
+  unfolding megawattsWithin
   bounded-row e =
       let d = and-right (within mostMegawatts (available H r)) (within mostMegawatts (displaced H r) && within mostMegawatts (reduced H r)) e in
       record {
@@ -85,8 +85,8 @@ module _ (H : ℕ) (r : List ℕ) where
             p low high;
       }
 
-  row-bounded : Bounded H r → bearable H r ≡ true
-  unfolding bearable
+  row-bounded : Bounded H r → megawattsWithin H r ≡ true
+  unfolding megawattsWithin
   row-bounded b =
       ap (λ (t : Bool). t && (within mostMegawatts (displaced H r) && within mostMegawatts (reduced H r))) (within-span H availablePart r (λ h. b .most availablePart h (omega arith) (lit< tt)))
       ∙ ap (λ (t : Bool). t && within mostMegawatts (reduced H r)) (within-span H displacedPart r (λ h. b .most displacedPart h (omega arith) (lit< tt)))
@@ -270,17 +270,9 @@ module _ {H : ℕ} {r : List ℕ} (g : Ranged H r) where
         at-most (at (megawatts H h r) availablePart 0) grantedPart (standing (start r) v h) mostMegawatts p (λ o. absurd (omega (arith, o, least)))
         (λ n. at-most (megawatts H h r) availablePart 0 mostMegawatts p (λ o. omega arith) (λ o. b .most p h least most low high))))
 
-    -- the hours of reduced, counted by the row's span or by the profile
-    same-reduced : hoursOf H reducedPart (start r) (length v) r ≡ reduced H r
-    unfolding span
-    same-reduced = ap (λ (k : ℕ). hoursOf H reducedPart (start r) k r) e
-
-    pub reduced-long : length (reducedRow H (start r) v r) ≡ rowSize H
-    reduced-long = seen-reduced in-hours own-room .long
-
     pub reduced-bounded : Bounded H r → roomy mostMegawatts v (reduced H r) ≡ true → Bounded H (reducedRow H (start r) v r)
     reduced-bounded b f =
-        let f′ : roomy mostMegawatts v (hoursOf H reducedPart (start r) (length v) r) ≡ true = ap (λ (x : List ℕ). roomy mostMegawatts v x) same-reduced ∙ f in
+        let f′ : roomy mostMegawatts v (hoursOf H reducedPart (start r) (length v) r) ≡ true = ap (λ (x : List ℕ). roomy mostMegawatts v x) (span-hours H reducedPart r refl e) ∙ f in
         bounded-by g
         (λ h low high.
         shown (seen-reduced {h = h} (omega (arith, high, g .stops)) own-room) refl refl
@@ -293,7 +285,7 @@ module _ {H : ℕ} {r : List ℕ} (g : Ranged H r) where
 
     pub bounded-reduced : Bounded H (reducedRow H (start r) v r) → roomy mostMegawatts v (reduced H r) ≡ true
     bounded-reduced b =
-        sym (ap (λ (x : List ℕ). roomy mostMegawatts v x) same-reduced)
+        sym (ap (λ (x : List ℕ). roomy mostMegawatts v x) (span-hours H reducedPart r refl e))
         ∙ hour-room own-room reducedPart (lit< tt)
         (λ h least below.
         let high : h < stop r = omega (arith, below, e, g .starts) in
@@ -340,8 +332,7 @@ module _ {H : ℕ} {r : List ℕ} (g : Ranged H r) where
 
   -- the hours of displaced, counted by the row's span or by its available
   same-hours : hoursOf H displacedPart (start r) (length (available H r)) r ≡ displaced H r
-  unfolding span
-  same-hours = ap (λ (k : ℕ). hoursOf H displacedPart (start r) k r) (span-length availablePart (lit< tt))
+  same-hours = span-hours H displacedPart r refl (span-length availablePart (lit< tt))
 
   pub displaced-bounded : Bounded H r → roomy mostMegawatts (available H r) (displaced H r) ≡ true → Bounded H (displacedRow H r)
   displaced-bounded b e =

@@ -29,7 +29,8 @@ use Rattle.rules.proofs.Turned.{Turned, turned}
 use Rattle.rules.proofs.SoundFacts.{SoundLedger, sized}
 use Rattle.rules.proofs.Types.{original-type, derived-type}
 use Rattle.rules.proofs.Unmoved.{Unmoved, unmoved-turned, types-stay, starts-stay, stops-stay, related-stays, unmoved-status, unmoved-raise, unmoved-offered, unmoved-bidden}
-use Rattle.rules.proofs.Bounded.{Bounded, AllBounded, not-carries, carries-false, Ranged, taken-long, given-long, held-long, emptied-long, displaced-long, annulled-long, reduced-long, taken-bounded, given-bounded, bounded-given, held-bounded, emptied-bounded, displaced-bounded, bounded-displaced, annulled-bounded, reduced-bounded, bounded-reduced, span-length, unmoved-bounded, new-long, new-bounded}
+use Rattle.rules.proofs.Effects.{reduced-length}
+use Rattle.rules.proofs.Bounded.{Bounded, AllBounded, not-carries, carries-false, Ranged, taken-long, given-long, held-long, emptied-long, displaced-long, annulled-long, taken-bounded, given-bounded, bounded-given, held-bounded, emptied-bounded, displaced-bounded, bounded-displaced, annulled-bounded, reduced-bounded, bounded-reduced, span-length, unmoved-bounded, new-long, new-bounded}
 
 -- mw given back to row r from hour s on
 unfoldable pub full : ℕ → ℕ → List ℕ → List ℕ → Bool
@@ -130,7 +131,7 @@ module _ {R H : ℕ} {l : List ℕ} {n : ℕ} (c : Carried R H l) (lt : n < used
     taken-turned k = turned (c .sized) (omega (arith, k, c .most-used)) (takeFrom H (start (row H l n)) mw) refl (taken-long (ranged c k) (start (row H l n)) mw fits)
 
     reduced-turned : Turned R H l (onRow H n (reducedRow H (start (row H l n)) mw) l) n (reducedRow H (start (row H l n)) mw (row H l n))
-    reduced-turned = turned (c .sized) own-row (reducedRow H (start (row H l n)) mw) refl (reduced-long (ranged c lt) mw long)
+    reduced-turned = turned (c .sized) own-row (reducedRow H (start (row H l n)) mw) refl (reduced-length (record { long = ranged c lt .long; fits = fits }))
 
     taken-all : {m : ℕ} → m < used l → AllBounded H (onRow H m (takeFrom H (start (row H l n)) mw) l)
     taken-all {m} k = turned-bounded (taken-turned k) (c .bounded) (taken-bounded (ranged c k) (c .bounded m k) (start (row H l n)) mw fits)

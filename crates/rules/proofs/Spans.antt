@@ -40,6 +40,11 @@ span-set H p r k x lt s t =
     ∙ ap (λ (i : ℕ). part (set r k x) (hourAt H p (start r)) i) n
     ∙ ap (λ (v : List ℕ). take (spanHours r) v) (drop-set-lt (hourAt H p (start r)) r k x (omega arith))
 
+-- count hours of profile p from hour s on, where these are the row's span
+pub span-hours : (H p : ℕ) (r : List ℕ) {s count : ℕ} → s ≡ start r → count ≡ spanHours r → hoursOf H p s count r ≡ span H p r
+unfolding span
+span-hours H p r {s} {count} es ec = ap (λ (x : ℕ). hoursOf H p x count r) es ∙ ap (λ (k : ℕ). hoursOf H p (start r) k r) ec
+
 module _ {H : ℕ} {r : List ℕ} (m : Spanned H r) where
   pub span-room : {p : ℕ} → p < profiles → hourAt H p (start r) + spanHours r ≤ length r
   span-room lt = omega (arith, hour-in H lt)

@@ -56,10 +56,10 @@ unfoldable pub reduce : ℕ → ℕ → List ℕ → List ℕ → List ℕ
 reduce H n mw l = l then onRow H n (reducedRow H (start (row H l n)) mw)
 
 -- the available, displaced and reduced words of row r are at most 100,000
-unfoldable pub bearable : ℕ → List ℕ → Bool
-bearable H r =
+unfoldable pub megawattsWithin : ℕ → List ℕ → Bool
+megawattsWithin H r =
     within mostMegawatts (available H r) && (within mostMegawatts (displaced H r) && within mostMegawatts (reduced H r))
 
 -- an available, displaced or reduced word over 100,000
 unfoldable pub carriesOver : ℕ → List ℕ → Bool
-carriesOver H l = not (allBelow (used l) (λ n. bearable H (row H l n)))
+carriesOver H l = not (allBelow (used l) (λ n. megawattsWithin H (row H l n)))

@@ -12,7 +12,8 @@ use Rattle.rules.specs.Layout.{row, spanHours, available}
 use Rattle.rules.specs.Checks.{profile}
 use Rattle.rules.specs.Reduce.{reducesTooMuch}
 use Rattle.rules.proofs.Passed.{ProfilePassed, profile-passed, profile-length}
-use Rattle.megawatts.proofs.Laws.{sized, in-rows, span-fits, span-hours, placed}
+use Rattle.rules.proofs.Spans.{span-hours}
+use Rattle.megawatts.proofs.Laws.{sized, in-rows, span-fits, placed}
 use Rattle.checks.proofs.Profiles.{profile-lent}
 use Rattle.provider.proofs.reduce.reduces_too_much.Statement.{statement}
 use Rattle.provider.proofs.reduce.reduces_too_much.Tie as tie
