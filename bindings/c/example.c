@@ -1,6 +1,7 @@
 /*
  * Document 01's day at the desk on two posted paths, through the library: prints
- * its 14 lines, and exits with status 1 where a line or a word left behind differs.
+ * its 14 lines, and exits with status 1 where a line or a word left behind differs,
+ * or the ledger left behind does not open.
  *
  *   cc -std=c11 -o example example.c -L<archive> -lluddrisa
  */
@@ -81,6 +82,7 @@ int main(void)
     uint32_t ledger[LEDGER_WORDS];
     uint32_t postings[POSTING_WORDS] = {0};
     struct luddrisa_answer answers[ACTIONS];
+    uint32_t opening;
     uint64_t cents;
     int differences = 0;
 
@@ -111,5 +113,11 @@ int main(void)
     /* Row 3 is CONFIRMED at bid 0, row 1 no longer. */
     differences += luddrisa_charge(ledger, LEDGER_WORDS, 3, &cents) != 0 || cents != 0;
     differences += luddrisa_charge(ledger, LEDGER_WORDS, 1, &cents) != 11 || cents != 0;
+    /* As it would be opened tomorrow, when it has been stored overnight. */
+    opening = luddrisa_open(ledger, LEDGER_WORDS);
+    if (opening != 0) {
+        fprintf(stderr, "the ledger does not open: %lu\n", (unsigned long)opening);
+        return 1;
+    }
     return differences != 0;
 }

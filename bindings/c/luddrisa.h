@@ -64,6 +64,11 @@
  * reduced, hour by hour. Nothing else writes reduced: there stands what was cut
  * from the row in all, also once it is displaced. A charge does not look at it.
  *
+ * BALANCE   Whatever list of actions a fresh ledger is given, every hour of what
+ * it leaves balances, and it opens. An action does not test the balance, so a
+ * ledger that was stored is to be opened when it is taken up again, before it is
+ * handed to any other call.
+ *
  * ANSWERS   Accepted: 0, the reference, the status before (0 for a submission)
  * and after, and the MW-hours moved; the clock and a posting give five zeros.
  * Refused: the number and four zeros, and no word of the ledger or of the
@@ -81,6 +86,7 @@
  *    8 all rows used                        16 limit not reached
  *    9 related row does not fit             17 fewer answers than actions
  *   10 flags                                18 not a stamp   19 stamp not written
+ *   20 some hour does not balance (opening alone)
  *   21 path not 1 to 64, or a resale, transfer or relinquishment not on its
  *      related row's path
  *   22 use of the row's path, of its related row's or of the posted path would
@@ -138,6 +144,22 @@ struct luddrisa_answer {
  */
 uint32_t luddrisa_create(uint32_t *ledger, size_t len, uint32_t rows, uint32_t hours,
                          uint32_t provider, uint32_t window, uint32_t base);
+
+/*
+ * Opens a stored ledger: to be called when it is taken up again. Only reads, and
+ * does not look at the postings. Gives 0; 1 where the ledger is unsound; then 20
+ * where some hour does not balance, which is where one of these fails:
+ *
+ * For a CONFIRMED or DISPLACED row that is no relinquish record, granted equals
+ * its own available + displaced + reduced plus the granted of the CONFIRMED and
+ * DISPLACED rows related to it. Of a redirect among these only what it has not
+ * given back counts: its granted less that of its own CONFIRMED and DISPLACED
+ * relinquish records.
+ *
+ * For a CONFIRMED or DISPLACED original, granted equals the sum of available +
+ * displaced + reduced over itself and all rows descended from it, at any status.
+ */
+uint32_t luddrisa_open(const uint32_t *ledger, size_t ledger_len);
 
 /*
  * Answers each action in turn, action i into answers[i]. Gives 0, also for an

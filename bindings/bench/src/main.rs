@@ -6,6 +6,7 @@
 //! Prints Markdown tables.
 
 mod mixed;
+mod opening;
 
 use std::cell::RefCell;
 use std::hint::black_box;
@@ -412,6 +413,8 @@ fn main() {
     batch_of_reductions();
     mixed_actions();
     confirmations();
+    opening::openings();
     growth();
+    opening::growth();
     stamps();
 }

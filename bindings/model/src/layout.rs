@@ -122,6 +122,7 @@ pub const BEFORE_LIMIT: u32 = 16;
 pub const TOO_FEW_ANSWERS: u32 = 17;
 pub const NOT_A_STAMP: u32 = 18;
 pub const STAMP_RANGE: u32 = 19;
+pub const UNBALANCED: u32 = 20;
 pub const BAD_PATH: u32 = 21;
 pub const OVER_POSTING: u32 = 22;
 

@@ -1,5 +1,6 @@
-//! The hourly reservation ledger of document 01 with the path limits and the kept
-//! reductions of document 02, written from the papers alone.
+//! The hourly reservation ledger of document 01 with the path limits, the kept
+//! reductions and the balance on opening of document 02, written from the papers
+//! alone.
 //!
 //! A ledger is a slice of 32-bit words: a head of 8 words, then R rows of
 //! 16 + 5 × H words each. What the provider posts for each path and hour stands
@@ -11,6 +12,7 @@
 
 mod actions;
 mod layout;
+mod open;
 mod paths;
 mod readout;
 mod sound;
@@ -19,6 +21,7 @@ mod tally;
 
 pub use actions::{act, batch, create};
 pub use layout::*;
+pub use open::{open, row_balances, tree_balances};
 pub use paths::{path_use, postings_fit};
 pub use readout::{charge, profile_in_force};
 pub use sound::sound;

@@ -198,6 +198,7 @@ fn day_at_the_desk() {
     assert_eq!((1..=5).map(|n| desk.field(n, PATH)).collect::<Vec<_>>(), [1, 1, 2, 1, 2]);
     assert_eq!(desk.postings[..8], [100; 8]);
     assert_eq!(balanced(&desk.ledger, &desk.tally), Ok(()));
+    assert_eq!(open(&desk.ledger), 0);
 }
 
 #[test]

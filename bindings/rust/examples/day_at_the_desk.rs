@@ -1,5 +1,6 @@
 //! Document 01's day at the desk on two posted paths: prints its 14 lines and
-//! exits with status 1 where a line or a word left behind differs.
+//! exits with status 1 where a line or a word left behind differs, or the ledger
+//! left behind does not open.
 
 use std::process::ExitCode;
 
@@ -104,5 +105,9 @@ fn main() -> Result<ExitCode, Refusal> {
         .zip(LINES)
         .all(|((answer, number), line)| format!("{number} {answer}") == line);
     agrees &= together == ledger && together_posted == postings;
+
+    // As it would be opened tomorrow.
+    let opened = Ledger::open(together.words())?;
+    agrees &= opened == ledger;
     Ok(if agrees { ExitCode::SUCCESS } else { ExitCode::FAILURE })
 }

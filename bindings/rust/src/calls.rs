@@ -17,6 +17,7 @@ mod extern_c {
             window: u32,
             base: u32,
         ) -> u32;
+        pub fn luddrisa_open(ledger: *const u32, ledger_len: usize) -> u32;
         pub fn luddrisa_batch(
             ledger: *mut u32,
             ledger_len: usize,
@@ -68,6 +69,13 @@ pub fn create(
             base,
         )
     }
+}
+
+/// Opens a stored ledger, which is only read: 0, 1 where it is unsound, or 20 where
+/// some hour does not balance.
+pub fn open(ledger: &[u32]) -> u32 {
+    // SAFETY: the pointer and the length are those of a slice lent for the call.
+    unsafe { extern_c::luddrisa_open(ledger.as_ptr(), ledger.len()) }
 }
 
 /// Answers each action in turn: 0, or 17 and nothing done where there are fewer

@@ -174,13 +174,44 @@ impl Ledger {
         Ok(Ledger { words })
     }
 
-    /// A ledger from words kept elsewhere. They are not looked at here: on an
-    /// unsound ledger every action answers [`Refusal::UNSOUND`].
-    pub fn from_words(words: Vec<u32>) -> Ledger {
+    /// Takes a stored ledger up again, once its words are tested: they must be sound,
+    /// or else it is [`Refusal::UNSOUND`], and every hour must balance, or else it is
+    /// [`Refusal::UNBALANCED`]. What actions left of a ledger from [`Ledger::create`]
+    /// always opens.
+    ///
+    /// An hour of a confirmed or displaced row balances where its granted is its own
+    /// available, displaced and reduced and what the confirmed and displaced rows
+    /// related to it took; an original's granted is also held against all that is left
+    /// in the rows descended from it.
+    ///
+    /// ```
+    /// use luddrisa::{Ledger, Refusal};
+    ///
+    /// let stored = Ledger::create(8, 4, 1, 3_600, 0).unwrap().into_words();
+    /// let ledger = Ledger::open(&stored).unwrap();
+    /// assert_eq!(ledger.words(), stored);
+    ///
+    /// // A word lost in storage.
+    /// let refusal = Ledger::open(&stored[1..]).unwrap_err();
+    /// assert_eq!(refusal, Refusal::UNSOUND);
+    /// println!("not opened: {refusal}");
+    /// ```
+    pub fn open(words: &[u32]) -> Result<Ledger, Refusal> {
+        Refusal::check(calls::open(words))?;
+        Ok(Ledger { words: words.to_vec() })
+    }
+
+    /// Words taken for a ledger that was not opened: neither soundness nor the balance
+    /// is tested. For tools that show a ledger which does not open, and for tests; a
+    /// stored ledger is taken up again by [`Ledger::open`].
+    ///
+    /// On an unsound one every action answers [`Refusal::UNSOUND`]. On a sound one that
+    /// does not balance actions are carried out, and go by its words as they stand.
+    pub fn from_words_unopened(words: Vec<u32>) -> Ledger {
         Ledger { words }
     }
 
-    /// The words, to be kept.
+    /// The words, to be kept, and opened again by [`Ledger::open`].
     pub fn words(&self) -> &[u32] {
         &self.words
     }
@@ -190,7 +221,7 @@ impl Ledger {
         self.words
     }
 
-    /// True where the ledger is sound.
+    /// True where the ledger is sound. The balance is not looked at.
     pub fn is_sound(&self) -> bool {
         // A charge tells an unsound ledger before it misses the reference.
         calls::charge(&self.words, 0).0 != Refusal::UNSOUND.0

@@ -55,6 +55,8 @@
 //! A firm redirect frees the path it leaves, so annulling it can fail once that
 //! path is sold again; a non-firm one keeps it free for the return.
 //! What was cut from a row by reductions is kept in it, added up hour by hour.
+//! A stored ledger is taken up again by [`Ledger::open`], which tests that every
+//! hour balances; actions do not test it.
 //! A list of actions is not all-or-nothing: each has its own answer. A charge
 //! goes by what was granted and ignores reductions, resales and transfers.
 

@@ -128,6 +128,7 @@ named_numbers! {
         TOO_FEW_ANSWERS = 17, "there are fewer answer places than actions";
         NOT_A_STAMP = 18, "this is no stamp, or past the last second";
         STAMP_OUT_OF_RANGE = 19, "the second, the zone or the place for the stamp is out of range";
+        UNBALANCED = 20, "some hour of the ledger does not balance";
         WRONG_PATH = 21, "the path is unknown, or not that of the related row";
         OVER_POSTED = 22, "use of a path would exceed what is posted for it in some hour";
     }
@@ -241,17 +242,18 @@ mod tests {
         assert_eq!(numbers(Kind::ALL), (1..=8).collect::<Vec<_>>());
         assert_eq!(numbers(RequestType::ALL), (1..=8).collect::<Vec<_>>());
         assert_eq!(numbers(Status::ALL), (1..=17).collect::<Vec<_>>());
-        assert_eq!(numbers(Refusal::ALL), (1..=19).chain(21..=22).collect::<Vec<_>>());
+        assert_eq!(numbers(Refusal::ALL), (1..=22).collect::<Vec<_>>());
         assert_eq!(numbers(Zone::ALL), (0..=8).collect::<Vec<_>>());
     }
 
     #[test]
     fn every_number_has_its_own_text() {
         let texts: HashSet<_> = Refusal::ALL.iter().map(|refusal| refusal.to_string()).collect();
-        assert_eq!(texts.len(), 21);
+        assert_eq!(texts.len(), 22);
         let texts: HashSet<_> = Status::ALL.iter().map(|status| status.to_string()).collect();
         assert_eq!(texts.len(), 17);
-        assert_eq!(Refusal(20).to_string(), "unknown Refusal 20");
+        assert_eq!(Refusal::UNBALANCED.to_string(), "some hour of the ledger does not balance");
+        assert_eq!(Refusal(23).to_string(), "unknown Refusal 23");
         assert_eq!(Status(0).text(), None);
     }
 
@@ -275,6 +277,7 @@ mod tests {
     fn refusals_of_numbers() {
         assert_eq!(Refusal::of(0), None);
         assert_eq!(Refusal::of(14), Some(Refusal::SHORT));
+        assert_eq!(Refusal::of(20), Some(Refusal::UNBALANCED));
         assert_eq!(Refusal::check(17), Err(Refusal::TOO_FEW_ANSWERS));
         assert_eq!(Refusal::check(0), Ok(()));
     }

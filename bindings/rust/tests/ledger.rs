@@ -53,13 +53,136 @@ fn rows_are_shown_by_name() {
 #[test]
 fn words_are_kept_and_come_back() {
     let (ledger, postings) = with_an_original();
-    let again = Ledger::from_words(ledger.words().to_vec());
+    let again = Ledger::open(ledger.words()).unwrap();
     assert_eq!(again, ledger);
     assert!(again.is_sound());
     assert_eq!(again.into_words(), ledger.words());
     let again = Postings::from_words(postings.words().to_vec());
     assert_eq!(again, postings);
     assert_eq!(again.into_words(), postings.words());
+}
+
+/// A day with a resale, a redirect of which some is given back, a reduction and a
+/// displacement.
+fn after_a_day() -> Ledger {
+    let mut ledger = Ledger::create(8, 4, 1, 3_600, 0).unwrap();
+    let mut postings = Postings::none(&ledger);
+    let mut profiles = Profiles::new();
+    let all_day = profiles.add(&[100; 4]);
+    let part = profiles.add(&[40, 60]);
+    let less = profiles.add(&[10, 20]);
+    let derived = |actor, reqtype, seller, related, at| {
+        Action::submit(actor, reqtype, seller)
+            .path(1)
+            .related(related)
+            .span(1, 3)
+            .flags(Flags::PRECONFIRMED)
+            .profile(at)
+    };
+    let list = [
+        Action::post(1, 1).span(0, 4).profile(all_day),
+        Action::submit(10, RequestType::ORIGINAL_FIRM, 1)
+            .path(1)
+            .span(0, 4)
+            .flags(Flags::PRECONFIRMED)
+            .profile(all_day),
+        Action::seller_status(1, 1, Status::ACCEPTED),
+        derived(20, RequestType::RESALE, 10, 1, less),
+        Action::seller_status(10, 2, Status::ACCEPTED),
+        derived(10, RequestType::REDIRECT_NON_FIRM, 1, 1, part),
+        Action::seller_status(1, 3, Status::ACCEPTED),
+        derived(10, RequestType::RELINQUISH, 1, 3, less),
+        Action::seller_status(1, 4, Status::ACCEPTED),
+        Action::reduce(1, 3, less),
+        Action::seller_status(10, 2, Status::DISPLACED),
+        derived(30, RequestType::RESALE, 10, 1, part),
+    ];
+    let answers = ledger.answers(&mut postings, profiles.words(), &list);
+    assert!(answers.iter().all(Answer::is_accepted), "{answers:?}");
+    ledger
+}
+
+/// Where a profile of a row begins, over four hours.
+fn profile_at(reference: usize, profile: usize) -> usize {
+    8 + (reference - 1) * (16 + 5 * 4) + 16 + profile * 4
+}
+
+#[test]
+fn a_stored_day_opens() {
+    let day = after_a_day();
+    let redirect = day.row(3).unwrap();
+    assert_eq!(redirect.available, [0, 20, 20, 0]);
+    assert_eq!(redirect.reduced, [0, 10, 20, 0]);
+    let stored = day.words().to_vec();
+    let again = Ledger::open(&stored).unwrap();
+    assert_eq!(again, day);
+    assert_eq!(again.into_words(), stored);
+    // With no row used, and after one action.
+    for ledger in [Ledger::create(1_024, 1, 1, 1, 0).unwrap(), with_an_original().0] {
+        assert_eq!(Ledger::open(ledger.words()).as_ref(), Ok(&ledger));
+    }
+}
+
+#[test]
+fn an_hour_that_does_not_balance_is_not_opened() {
+    let stored = after_a_day().into_words();
+    let not_opened = |words: Vec<u32>| {
+        assert_eq!(Ledger::open(&words), Err(Refusal::UNBALANCED));
+        assert!(Ledger::from_words_unopened(words).is_sound());
+    };
+    // An available word of the original, of the resale that is DISPLACED, of the redirect,
+    // of its relinquish record, and of the resale that is still QUEUED.
+    for reference in 1..=5 {
+        let mut words = stored.clone();
+        words[profile_at(reference, 2) + 2] += 1;
+        not_opened(words);
+    }
+    // The relinquish record says 9 MW instead of 10 in hour 1.
+    let mut words = stored.clone();
+    words[profile_at(4, 1) + 1] -= 1;
+    not_opened(words);
+    // The relinquish record lost its status.
+    let mut words = stored.clone();
+    words[profile_at(4, 0) - 15] = Status::ANNULLED.0;
+    not_opened(words);
+    // A megawatt of the redirect moved from hour 1 to hour 2.
+    let mut words = stored.clone();
+    words[profile_at(3, 2) + 1] -= 1;
+    words[profile_at(3, 2) + 2] += 1;
+    not_opened(words);
+    // From available to reduced every hour still balances.
+    let mut words = stored;
+    words[profile_at(3, 2) + 1] -= 1;
+    words[profile_at(3, 4) + 1] += 1;
+    assert!(Ledger::open(&words).is_ok());
+}
+
+#[test]
+fn an_unsound_ledger_is_not_opened() {
+    let stored = after_a_day().into_words();
+    let mut words = stored.clone();
+    // Unbalanced as well, but unsound comes first.
+    words[profile_at(1, 2)] = 100_001;
+    assert_eq!(Ledger::open(&words), Err(Refusal::UNSOUND));
+    words[profile_at(1, 2)] = 100_000;
+    assert_eq!(Ledger::open(&words), Err(Refusal::UNBALANCED));
+    for len in [0, 1, 7, 8, stored.len() - 1] {
+        assert_eq!(Ledger::open(&stored[..len]), Err(Refusal::UNSOUND));
+    }
+    let mut longer = stored;
+    longer.push(0);
+    assert_eq!(Ledger::open(&longer), Err(Refusal::UNSOUND));
+}
+
+#[test]
+fn a_ledger_that_does_not_open_can_be_shown() {
+    let mut words = after_a_day().into_words();
+    words[profile_at(1, 2)] -= 1;
+    let refusal = Ledger::open(&words).unwrap_err();
+    let shown = Ledger::from_words_unopened(words.clone());
+    assert_eq!(refusal.to_string(), "some hour of the ledger does not balance");
+    assert_eq!(shown.row(1).unwrap().available, [99, 60, 40, 100]);
+    assert_eq!(shown.into_words(), words);
 }
 
 #[test]
@@ -73,9 +196,9 @@ fn postings_are_shown_by_path_and_hour() {
     assert_eq!((postings.posted(3, 4), postings.posted(0, 0)), (None, None));
     assert_eq!(postings.words()[8..12], [100; 4]);
     // Nothing posted, for the hours of any words.
-    assert!(Postings::none(&Ledger::from_words(vec![1; 7])).words().is_empty());
+    assert!(Postings::none(&Ledger::from_words_unopened(vec![1; 7])).words().is_empty());
     for (hours, words) in [(0, 0), (1, 64), (744, 64 * 744), (745, 0), (u32::MAX, 0)] {
-        let ledger = Ledger::from_words(vec![1, hours, 1, 1, 1, 1, 1, 1]);
+        let ledger = Ledger::from_words_unopened(vec![1, hours, 1, 1, 1, 1, 1, 1]);
         let none = Postings::none(&ledger);
         assert_eq!(none.words(), vec![0; words]);
         assert_eq!(none.posted(1, 0), (words > 0).then_some(0));
@@ -147,7 +270,7 @@ fn no_more_than_100_000_are_kept() {
     let mut words = ledger.into_words();
     let row_end = 8 + 16 + 5 * 4;
     words[row_end - 2] = 100_000;
-    let mut ledger = Ledger::from_words(words.clone());
+    let mut ledger = Ledger::from_words_unopened(words.clone());
     assert!(ledger.is_sound());
     assert_eq!(ledger.row(1).unwrap().reduced, [0, 0, 100_000, 0]);
     let cut = Action::reduce(1, 1, ProfileAt { offset: 0, length: 4 });
@@ -158,7 +281,7 @@ fn no_more_than_100_000_are_kept() {
     assert_eq!(ledger.row(1).unwrap().reduced, [1, 0, 100_000, 0]);
     // Over the bound it is no ledger.
     words[row_end - 2] = 100_001;
-    assert!(!Ledger::from_words(words).is_sound());
+    assert!(!Ledger::from_words_unopened(words).is_sound());
 }
 
 #[test]
@@ -172,7 +295,7 @@ fn rows_of_four_profiles_are_no_ledger() {
         .copied()
         .collect();
     assert_eq!((words.len(), old.len()), (8 + 2 * 36, 8 + 2 * 32));
-    let mut old = Ledger::from_words(old);
+    let mut old = Ledger::from_words_unopened(old);
     assert!(!old.is_sound());
     let answer = old.act(&mut postings, &[], &Action::clock(1, 1));
     assert_eq!(answer.refusal(), Some(Refusal::UNSOUND));
@@ -197,7 +320,7 @@ fn any_postings_are_answered() {
 #[test]
 fn any_words_are_answered() {
     for words in [vec![], vec![5; 3], vec![u32::MAX; 8], vec![1; 400]] {
-        let mut ledger = Ledger::from_words(words.clone());
+        let mut ledger = Ledger::from_words_unopened(words.clone());
         let mut postings = Postings::none(&ledger);
         assert!(!ledger.is_sound());
         let answer = ledger.act(&mut postings, &[], &Action::clock(1, 1));

@@ -23,6 +23,9 @@ fn one_batch(run: &mut Run, rng: &mut Rng) -> Result<(), Difference> {
     let answered = list(run, rng, length)?;
     let fresh = run.fresh(answered.numbers)?;
     with_places(run, &fresh, &answered.words, &answered.actions)?;
+    let mut again = fresh.clone();
+    run.batch(&mut again, &answered.words, &answered.actions, answered.actions.len())?;
+    run.opens(&again.ledger)?;
     with_places(run, &answered.desk, &answered.words, &[])?;
 
     let dense = sound_ledger(rng, 5, 4);
@@ -59,6 +62,7 @@ fn with_places(
     for places in [count, 0, count.saturating_sub(1), count / 2, count + 1, count + 7] {
         let mut desk = start.clone();
         let (number, answers) = run.batch(&mut desk, words, actions, places)?;
+        run.open(&desk.ledger)?;
         if places < count {
             assert_eq!(number, 17);
             assert!(answers.iter().all(|answer| *answer == UNWRITTEN));

@@ -341,6 +341,7 @@ fn one_ledger(run: &mut Run, rng: &mut Rng) -> Result<(), Difference> {
     let ledger = sound_ledger(rng, 7, 5);
     let start = Desk::new(&ledger, &postings_of(rng, &ledger));
     let mut desk = start.clone();
+    run.open(&desk.ledger)?;
     let mut words = Words::new();
     for number in 0..24 {
         // Mostly on the ledger as built, now and then on from there.
@@ -351,6 +352,7 @@ fn one_ledger(run: &mut Run, rng: &mut Rng) -> Result<(), Difference> {
         to_the_limit(run, rng, desk.ledger(), &words, &action)?;
         run.act(&mut desk, &words, &action)?;
     }
+    run.open(&desk.ledger)?;
     if rng.chance(20) {
         run.read_all_out(&desk.ledger)?;
     }
@@ -411,6 +413,7 @@ pub fn greatest(run: &mut Run, seed: u64) -> Result<(), Difference> {
         run.act(&mut desk, &profiles, &action).map_err(tell)?;
     }
     run.read_out(&desk.ledger, MAX_ROWS).map_err(tell)?;
+    run.open(&desk.ledger).map_err(tell)?;
     // The very last word of the postings, one over, and of the ledger.
     let action = Action { kind: 9, ..Action::default() };
     let mut over = desk.clone();

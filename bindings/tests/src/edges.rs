@@ -188,6 +188,7 @@ fn spoil_words(run: &mut Run, ground: &Ground, action: &Action) -> Result<(), Di
         for value in values(ledger[at], bound) {
             spoilt[at] = value;
             ground.act_on(run, &spoilt, action)?;
+            run.open_words(&spoilt)?;
         }
         // Soundness by itself, and what is read out.
         for value in [bound, bound + 1] {
@@ -328,20 +329,24 @@ fn damage(
     for length in (0..=12).chain(others) {
         ground.act_on(run, &grown[..length], action)?;
         run.read_out(&Twice::new(&grown[..length]), 1)?;
+        run.open_words(&grown[..length])?;
         let noise: Vec<u32> = (0..length).map(|_| rng.pick(&[0, 1, 2, 3, u32::MAX])).collect();
         ground.act_on(run, &noise, action)?;
         run.read_out(&Twice::new(&noise), 1)?;
+        run.open_words(&noise)?;
     }
     for profiles in [PROFILES - 1, PROFILES + 1] {
         let other = laid_out(ledger, PROFILES, profiles);
         ground.act_on(run, &other, action)?;
         ground.act_on(run, &other, &NO_KIND)?;
         run.read_out(&Twice::new(&other), 1)?;
+        run.open_words(&other)?;
     }
     // The head of the greatest ledger, and one whose length wraps 32 bits, over few words.
     for (rows, hours) in [(MAX_ROWS, MAX_HOURS), (1 << 28, 0), (1 << 30, u32::MAX), (0, 0)] {
         let head = [rows, hours, 1, 1, 0, 0, 0, 0];
         ground.act_on(run, &head, action)?;
+        run.open_words(&head)?;
     }
     Ok(())
 }
@@ -388,6 +393,7 @@ pub fn sizes(run: &mut Run) -> Result<(), Difference> {
         let answer = run.act(&mut desk, &[], &NO_KIND)?;
         let fits = (1..=MAX_ROWS).contains(&rows) && (1..=MAX_HOURS).contains(&hours);
         assert_eq!(answer.number, if fits { BAD_CODE } else { BAD_LEDGER });
+        assert_eq!(run.open(&desk.ledger)?, if fits { 0 } else { BAD_LEDGER });
         let clock = Action { kind: CLOCK, actor: 1, time: 5, ..NO_KIND };
         assert_eq!(run.act(&mut desk, &[], &clock)?.number, if fits { 0 } else { BAD_LEDGER });
         run.read_out(&desk.ledger, 1)?;

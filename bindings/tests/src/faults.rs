@@ -23,6 +23,7 @@ enum Fault {
     Post(fn(&Case, &mut [u32], &mut Answer)),
     Batch(BatchCall),
     Create(fn(&mut [u32], [u32; 5]) -> u32),
+    Open(fn(&[u32]) -> u32),
     Charge(fn(&[u32], u32) -> (u32, u64)),
     Profile(fn(&[u32], u32, &mut [u32]) -> usize),
     ReadStamp(fn(&[u8]) -> (u32, u32)),
@@ -39,11 +40,25 @@ pub struct Faulty {
     pub overused: bool,
 }
 
+impl Faulty {
+    /// True where the fault is one of opening.
+    pub fn is_of_opening(&self) -> bool {
+        matches!(self.fault, Fault::Open(_))
+    }
+}
+
 impl Rules for Faulty {
     fn create(&self, ledger: &mut [u32], numbers: [u32; 5]) -> u32 {
         match self.fault {
             Fault::Create(create) => create(ledger, numbers),
             _ => Model.create(ledger, numbers),
+        }
+    }
+
+    fn open(&self, ledger: &[u32]) -> u32 {
+        match self.fault {
+            Fault::Open(open) => open(ledger),
+            _ => Model.open(ledger),
         }
     }
 
@@ -446,6 +461,139 @@ fn unfit_rows(ledger: &[u32]) -> bool {
     })
 }
 
+// Opening.
+
+/// The test on opening, worked out apart from the model: first what each row should
+/// still hold, then what it does. Each part is the paper's or has a fault.
+#[derive(Clone, Copy)]
+struct Opening {
+    /// Rows that have an equation.
+    tested: fn(&[u32], Row) -> bool,
+    /// Rows whose granted was taken from their related row.
+    takes: fn(&[u32], Row) -> bool,
+    /// Rows whose granted came back from a redirect to the row above it.
+    gives_back: fn(&[u32], Row, Row) -> bool,
+    /// What a row holds, by its equation and in its tree.
+    held: &'static [usize],
+    held_in_tree: &'static [usize],
+    /// Rows whose trees are added up, and the rows in them.
+    added_up: fn(&[u32], Row) -> bool,
+    in_tree: fn(&[u32], u32, u32) -> bool,
+    /// Do what should be held and what is held agree, by the equation and in the tree?
+    agree: fn(&[u32], u32, &[i64], &[i64]) -> bool,
+    trees_agree: fn(&[u32], u32, &[i64], &[i64]) -> bool,
+}
+
+/// As the paper has it.
+const OPENING: Opening = Opening {
+    tested: |ledger, row| stands(ledger, row) && row.get(ledger, TYPE) != RELINQUISH,
+    takes: stands,
+    gives_back: |ledger, redirect, row| {
+        is_redirect(ledger, redirect)
+            && stands(ledger, redirect)
+            && stands(ledger, row)
+            && row.get(ledger, TYPE) == RELINQUISH
+    },
+    held: &[AVAILABLE, DISPLACED_MW, REDUCED_MW],
+    held_in_tree: &[AVAILABLE, DISPLACED_MW, REDUCED_MW],
+    added_up: |ledger, row| stands(ledger, row) && is_original(ledger, row),
+    in_tree: |ledger, top, reference| chain(ledger, reference).contains(&top),
+    agree: |_, _, should, held| should == held,
+    trees_agree: |_, _, should, held| should == held,
+};
+
+fn stands(ledger: &[u32], row: Row) -> bool {
+    matches!(row.get(ledger, STATUS), CONFIRMED | DISPLACED)
+}
+
+fn is_original(ledger: &[u32], row: Row) -> bool {
+    row.get(ledger, TYPE) <= ORIGINAL_NON_FIRM
+}
+
+fn is_redirect(ledger: &[u32], row: Row) -> bool {
+    matches!(row.get(ledger, TYPE), REDIRECT_FIRM | REDIRECT_NON_FIRM)
+}
+
+/// A reference and all that it descends from.
+fn chain(ledger: &[u32], reference: u32) -> Vec<u32> {
+    let mut chain = vec![reference];
+    while let Some(above) = related(ledger, Row::of(ledger, chain[chain.len() - 1])) {
+        chain.push(reference_of(above));
+    }
+    chain
+}
+
+fn reference_of(row: Row) -> u32 {
+    ((row.at - HEAD_WORDS) / (FIELD_WORDS + PROFILES * row.hours)) as u32 + 1
+}
+
+fn add_to(sums: &mut [i64], words: &[u32], sign: i64) {
+    for (sum, &mw) in sums.iter_mut().zip(words) {
+        *sum += sign * i64::from(mw);
+    }
+}
+
+fn holds(ledger: &[u32], row: Row, profiles: &[usize]) -> Vec<i64> {
+    let mut sums = vec![0; row.hours];
+    for &profile in profiles {
+        add_to(&mut sums, &ledger[row.profile(profile)], 1);
+    }
+    sums
+}
+
+fn opened(ledger: &[u32], opening: &Opening) -> u32 {
+    if !sound(ledger) {
+        return BAD_LEDGER;
+    }
+    let rows = used_rows(ledger);
+    let granted: Vec<Vec<i64>> = rows.iter().map(|&row| holds(ledger, row, &[GRANTED])).collect();
+    let mut should = granted.clone();
+    for &row in &rows {
+        let words = &ledger[row.profile(GRANTED)];
+        let Some(above) = related(ledger, row) else { continue };
+        if (opening.takes)(ledger, row) {
+            add_to(&mut should[reference_of(above) as usize - 1], words, -1);
+        }
+        let Some(top) = related(ledger, above) else { continue };
+        if (opening.gives_back)(ledger, above, row) {
+            add_to(&mut should[reference_of(top) as usize - 1], words, 1);
+        }
+    }
+    let balances = (1..).zip(&rows).all(|(reference, &row)| {
+        let held = holds(ledger, row, opening.held);
+        let should = &should[reference as usize - 1];
+        !(opening.tested)(ledger, row) || (opening.agree)(ledger, reference, should, &held)
+    });
+    let trees_balance = (1..).zip(&rows).all(|(top, &row)| {
+        if !(opening.added_up)(ledger, row) {
+            return true;
+        }
+        let mut held = vec![0; row.hours];
+        for (reference, &row) in (1..).zip(&rows) {
+            if (opening.in_tree)(ledger, top, reference) {
+                for &profile in opening.held_in_tree {
+                    add_to(&mut held, &ledger[row.profile(profile)], 1);
+                }
+            }
+        }
+        (opening.trees_agree)(ledger, top, &granted[top as usize - 1], &held)
+    });
+    if balances && trees_balance {
+        0
+    } else {
+        UNBALANCED
+    }
+}
+
+/// The hours of the first row that is related to a row, all where there is none.
+fn first_hours(ledger: &[u32], reference: u32) -> std::ops::Range<usize> {
+    let first = used_rows(ledger).into_iter().find(|row| row.get(ledger, RELATED) == reference);
+    match first {
+        Some(row) => row.get(ledger, START) as usize..row.get(ledger, STOP) as usize,
+        None => 0..ledger[HOURS] as usize,
+    }
+}
+
 const PLAIN: Faulty =
     Faulty { name: "", fault: Fault::Act(|_, _, _| ()), unbalanced: false, overused: false };
 
@@ -473,6 +621,10 @@ const fn calling(name: &'static str, fault: Fault) -> Faulty {
     Faulty { name, fault, ..PLAIN }
 }
 
+const fn opening(name: &'static str, open: fn(&[u32]) -> u32) -> Faulty {
+    Faulty { name, fault: Fault::Open(open), ..PLAIN }
+}
+
 /// No fault: the limits judged once more, on the ledger as it would be left and by
 /// the use worked out here, before a word over 100,000. It must agree with the
 /// model everywhere.
@@ -493,6 +645,10 @@ pub const JUDGED_APART: Faulty = acting("judges the limits apart", |case, ledger
         *answer = second;
     }
 });
+
+/// No fault: opening worked out apart, which must agree with the model everywhere.
+pub const OPENED_APART: Faulty =
+    opening("opens apart", |ledger| opened(ledger, &Opening { ..OPENING }));
 
 /// All planted faults; the first six are those the paper names.
 pub const FAULTS: &[Faulty] = &[
@@ -1413,6 +1569,166 @@ pub const FAULTS: &[Faulty] = &[
             answer.moved = profile_of(case).iter().sum();
         }
     }),
+    // Opening.
+    opening("counts rows at 13 alone", |ledger| {
+        opened(ledger, &Opening { takes: is_confirmed, ..OPENING })
+    }),
+    opening("has an equation for rows at 13 alone", |ledger| {
+        let tested = |ledger: &[u32], row: Row| {
+            is_confirmed(ledger, row) && row.get(ledger, TYPE) != RELINQUISH
+        };
+        opened(ledger, &Opening { tested, ..OPENING })
+    }),
+    opening("takes off records at 13 alone", |ledger| {
+        let gives_back = |ledger: &[u32], redirect: Row, row: Row| {
+            (OPENING.gives_back)(ledger, redirect, row) && is_confirmed(ledger, row)
+        };
+        opened(ledger, &Opening { gives_back, ..OPENING })
+    }),
+    opening("takes no record off its redirect", |ledger| {
+        opened(ledger, &Opening { gives_back: |_, _, _| false, ..OPENING })
+    }),
+    opening("takes all rows off a redirect", |ledger| {
+        let gives_back = |ledger: &[u32], redirect: Row, row: Row| {
+            is_redirect(ledger, redirect) && stands(ledger, redirect) && stands(ledger, row)
+        };
+        opened(ledger, &Opening { gives_back, ..OPENING })
+    }),
+    opening("takes records off a redirect that does not stand", |ledger| {
+        let gives_back = |ledger: &[u32], _: Row, row: Row| {
+            stands(ledger, row) && row.get(ledger, TYPE) == RELINQUISH
+        };
+        opened(ledger, &Opening { gives_back, ..OPENING })
+    }),
+    opening("takes off records that do not stand", |ledger| {
+        let gives_back = |ledger: &[u32], redirect: Row, row: Row| {
+            stands(ledger, redirect) && row.get(ledger, TYPE) == RELINQUISH
+        };
+        opened(ledger, &Opening { gives_back, ..OPENING })
+    }),
+    opening("leaves records out of their redirect's equation", |ledger| {
+        let takes =
+            |ledger: &[u32], row: Row| stands(ledger, row) && row.get(ledger, TYPE) != RELINQUISH;
+        opened(ledger, &Opening { takes, ..OPENING })
+    }),
+    opening("counts annulled rows", |ledger| {
+        let takes =
+            |ledger: &[u32], row: Row| stands(ledger, row) || row.get(ledger, STATUS) == ANNULLED;
+        opened(ledger, &Opening { takes, ..OPENING })
+    }),
+    opening("gives relinquish records an equation", |ledger| {
+        opened(ledger, &Opening { tested: stands, ..OPENING })
+    }),
+    opening("has an equation for rows at any status", |ledger| {
+        let tested = |ledger: &[u32], row: Row| row.get(ledger, TYPE) != RELINQUISH;
+        opened(ledger, &Opening { tested, ..OPENING })
+    }),
+    opening("has an equation for originals alone", |ledger| {
+        opened(ledger, &Opening { tested: OPENING.added_up, ..OPENING })
+    }),
+    opening("adds up the trees of redirects too", |ledger| {
+        let added_up = |ledger: &[u32], row: Row| {
+            stands(ledger, row) && (is_original(ledger, row) || is_redirect(ledger, row))
+        };
+        opened(ledger, &Opening { added_up, ..OPENING })
+    }),
+    opening("adds up the tree of an annulled original", |ledger| {
+        let added_up = |ledger: &[u32], row: Row| {
+            let annulled = row.get(ledger, STATUS) == ANNULLED;
+            is_original(ledger, row) && (stands(ledger, row) || annulled)
+        };
+        opened(ledger, &Opening { added_up, ..OPENING })
+    }),
+    opening("adds up the trees of originals at 13 alone", |ledger| {
+        let added_up =
+            |ledger: &[u32], row: Row| is_original(ledger, row) && is_confirmed(ledger, row);
+        opened(ledger, &Opening { added_up, ..OPENING })
+    }),
+    opening("adds up the rows related to an original alone", |ledger| {
+        let in_tree = |ledger: &[u32], top: u32, reference: u32| {
+            chain(ledger, reference).into_iter().take(2).any(|above| above == top)
+        };
+        opened(ledger, &Opening { in_tree, ..OPENING })
+    }),
+    opening("adds up live rows alone", |ledger| {
+        let in_tree = |ledger: &[u32], top: u32, reference: u32| {
+            chain(ledger, reference).contains(&top) && stands(ledger, Row::of(ledger, reference))
+        };
+        opened(ledger, &Opening { in_tree, ..OPENING })
+    }),
+    opening("ends a tree at a row that does not stand", |ledger| {
+        let in_tree = |ledger: &[u32], top: u32, reference: u32| {
+            let chain = chain(ledger, reference);
+            chain.contains(&top)
+                && chain[1..].iter().all(|&above| stands(ledger, Row::of(ledger, above)))
+        };
+        opened(ledger, &Opening { in_tree, ..OPENING })
+    }),
+    opening("adds up no relinquish record", |ledger| {
+        let in_tree = |ledger: &[u32], top: u32, reference: u32| {
+            let relinquishes = Row::of(ledger, reference).get(ledger, TYPE) == RELINQUISH;
+            chain(ledger, reference).contains(&top) && !relinquishes
+        };
+        opened(ledger, &Opening { in_tree, ..OPENING })
+    }),
+    opening("leaves reduced out of the equation", |ledger| {
+        opened(ledger, &Opening { held: &[AVAILABLE, DISPLACED_MW], ..OPENING })
+    }),
+    opening("leaves displaced out of the equation", |ledger| {
+        opened(ledger, &Opening { held: &[AVAILABLE, REDUCED_MW], ..OPENING })
+    }),
+    opening("leaves displaced out of the tree", |ledger| {
+        opened(ledger, &Opening { held_in_tree: &[AVAILABLE, REDUCED_MW], ..OPENING })
+    }),
+    opening("leaves reduced out of the tree", |ledger| {
+        opened(ledger, &Opening { held_in_tree: &[AVAILABLE, DISPLACED_MW], ..OPENING })
+    }),
+    opening("does not test the last hour", |ledger| {
+        let agree = |_: &[u32], _: u32, should: &[i64], held: &[i64]| {
+            let last = should.len() - 1;
+            should[..last] == held[..last]
+        };
+        opened(ledger, &Opening { agree, trees_agree: agree, ..OPENING })
+    }),
+    opening("tests the equation in the hours of the first related row alone", |ledger| {
+        let agree = |ledger: &[u32], reference: u32, should: &[i64], held: &[i64]| {
+            let hours = first_hours(ledger, reference);
+            should[hours.clone()] == held[hours]
+        };
+        opened(ledger, &Opening { agree, ..OPENING })
+    }),
+    opening("balances MW-hours instead of each hour", |ledger| {
+        let agree = |_: &[u32], _: u32, should: &[i64], held: &[i64]| {
+            should.iter().sum::<i64>() == held.iter().sum()
+        };
+        opened(ledger, &Opening { agree, trees_agree: agree, ..OPENING })
+    }),
+    opening("balances where no megawatt is beyond granted", |ledger| {
+        let agree = |_: &[u32], _: u32, should: &[i64], held: &[i64]| {
+            should.iter().zip(held).all(|(should, held)| should >= held)
+        };
+        opened(ledger, &Opening { agree, trees_agree: agree, ..OPENING })
+    }),
+    opening("adds up no tree", |ledger| {
+        opened(ledger, &Opening { added_up: |_, _| false, ..OPENING })
+    }),
+    opening("has no equations", |ledger| {
+        opened(ledger, &Opening { tested: |_, _| false, ..OPENING })
+    }),
+    opening("tells 20 before 1", |ledger| {
+        let mut mended = ledger.to_vec();
+        if ledger.len() >= HEAD_WORDS {
+            mended[HEAD_ZERO] = 0;
+            at_most(&mut mended, FLAGS, MAX_FLAGS);
+            at_most(&mut mended, PATH, MAX_PATH);
+            at_most(&mut mended, BID, MAX_PRICE);
+        }
+        match Model.open(&mended) {
+            UNBALANCED => UNBALANCED,
+            _ => Model.open(ledger),
+        }
+    }),
+    opening("tells 1 for 20", |ledger| Model.open(ledger).min(BAD_LEDGER)),
     // The batch and the other calls.
     calling(
         "posts only after the list",

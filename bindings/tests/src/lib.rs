@@ -3,9 +3,10 @@
 //!
 //! The generators are `lists` (from fresh ledgers, biased to accepted actions
 //! and deep chains), `dense` (any kind on any sound ledger), `edges` (words and
-//! fields at their bounds and over), `batches` and `stamps`. `limits` works out
-//! the use of paths apart from the model. `faults` holds models with a planted
-//! fault; the tests prove that each is caught.
+//! fields at their bounds and over), `openings` (ledgers that open, and damaged
+//! ones), `batches` and `stamps`. `limits` works out the use of paths apart from the
+//! model. `faults` holds models with a planted fault; the tests prove that each is
+//! caught.
 
 pub mod batches;
 pub mod converted;
@@ -14,6 +15,7 @@ pub mod edges;
 pub mod faults;
 pub mod limits;
 pub mod lists;
+pub mod openings;
 pub mod reached;
 pub mod rng;
 pub mod rules;

@@ -2,7 +2,8 @@
 //! deep chains: resale of redirect of resale, transfers, relinquishing, reductions
 //! of one row again and again, displacement, annulments, lapses, the clock, and
 //! postings going up and down on several paths. After each action no path is used
-//! beyond its posting, and after each list the tally must balance.
+//! beyond its posting and the ledger opens, and after each list the tally must
+//! balance.
 
 use luddrisa_model::*;
 
@@ -449,6 +450,7 @@ pub fn list(run: &mut Run, rng: &mut Rng, length: u32) -> Result<Answered, Diffe
         let action = next_action(rng, desk.ledger(), desk.postings(), &mut words, mood);
         let answer = run.act(&mut desk, &words, &action)?;
         within(desk.ledger(), desk.postings()).map_err(|told| format!("{action:?}: {told}"))?;
+        run.opens(&desk.ledger).map_err(|told| format!("{action:?}: {told}"))?;
         actions.push(action);
         answers.push(answer);
     }
@@ -499,6 +501,7 @@ fn one_list(run: &mut Run, rng: &mut Rng) -> Result<(), Difference> {
         return Err("in batches the list is answered otherwise than one by one".into());
     }
     within(desk.ledger(), desk.postings())?;
+    run.opens(&desk.ledger)?;
     balanced(desk.ledger(), &tally)
 }
 
@@ -512,6 +515,15 @@ pub fn balance_of(subject: &dyn Rules, seed: u64) -> Result<(), String> {
 pub fn limits_of(subject: &dyn Rules, seed: u64) -> Result<(), String> {
     alone(subject, seed, |ledger, postings, _| within(ledger, postings))
         .map_err(|told| format!("limits, seed {seed}: {told}"))
+}
+
+/// A list answered by the subject alone: does its ledger open, by the model?
+pub fn opening_of(subject: &dyn Rules, seed: u64) -> Result<(), String> {
+    alone(subject, seed, |ledger, _, _| match open(ledger) {
+        0 => Ok(()),
+        number => Err(format!("opens with {number}")),
+    })
+    .map_err(|told| format!("opening, seed {seed}: {told}"))
 }
 
 /// A list answered by the subject, what it left looked at after each action.

@@ -4,6 +4,8 @@ use std::collections::{BTreeMap, BTreeSet};
 
 use luddrisa_model::*;
 
+use crate::openings::Damage;
+
 /// Stands for every kind that is not 1 to 8.
 pub const NO_KIND: u32 = 0;
 
@@ -37,6 +39,7 @@ pub enum Of {
 /// The numbers of the other calls.
 pub const CHARGE: [u32; 4] = [0, 1, 4, 11];
 pub const CREATE: [u32; 2] = [0, 1];
+pub const OPENING: [u32; 3] = [0, 1, 20];
 pub const BATCH: [u32; 2] = [0, 17];
 pub const READ_STAMP: [u32; 2] = [0, 18];
 pub const WRITE_STAMP: [u32; 2] = [0, 19];
@@ -134,6 +137,16 @@ pub const REDUCED: [Reduced; 11] = [
     Reduced::BackToDisplaced,
 ];
 
+/// Which of the two tests on opening found a ledger unbalanced.
+#[derive(Clone, Copy, Debug, PartialEq, Eq, PartialOrd, Ord)]
+pub enum Found {
+    ByEquation,
+    ByTree,
+    ByBoth,
+}
+
+pub const FOUND: [Found; 3] = [Found::ByEquation, Found::ByTree, Found::ByBoth];
+
 /// What a run reached.
 #[derive(Clone, Debug, Default)]
 pub struct Reached {
@@ -147,6 +160,12 @@ pub struct Reached {
     /// What was met in reduced words, and type of the row; how often.
     reduced: BTreeMap<(Reduced, u32), u64>,
     calls: BTreeSet<(&'static str, u32)>,
+    /// Numbers that opening gave; how often.
+    opened: BTreeMap<u32, u64>,
+    /// What found the ledgers opened with 20; how often.
+    found: BTreeMap<Found, u64>,
+    /// What was done to a ledger, and the number it was opened with; how often.
+    damaged: BTreeMap<(Damage, u32), u64>,
 }
 
 impl Reached {
@@ -260,6 +279,36 @@ impl Reached {
         self.calls.insert((call, number));
     }
 
+    pub fn note_opening(&mut self, ledger: &[u32], number: u32) {
+        self.note_call("open", number);
+        *self.opened.entry(number).or_default() += 1;
+        if number == UNBALANCED {
+            let all = || 1..=ledger[USED];
+            let rows = all().all(|reference| row_balances(ledger, reference));
+            let trees = all().all(|reference| tree_balances(ledger, reference));
+            let found = match (rows, trees) {
+                (false, true) => Found::ByEquation,
+                (true, false) => Found::ByTree,
+                _ => Found::ByBoth,
+            };
+            *self.found.entry(found).or_default() += 1;
+        }
+    }
+
+    pub fn note_damage(&mut self, damage: Damage, number: u32) {
+        *self.damaged.entry((damage, number)).or_default() += 1;
+    }
+
+    /// How often opening gave a number.
+    pub fn times_opened(&self, number: u32) -> u64 {
+        self.opened.get(&number).copied().unwrap_or(0)
+    }
+
+    /// How often a ledger was found unbalanced so.
+    pub fn times_found(&self, found: Found) -> u64 {
+        self.found.get(&found).copied().unwrap_or(0)
+    }
+
     /// The pairs reached and how often, a line for each kind.
     pub fn told(&self) -> String {
         let mut lines = String::new();
@@ -278,6 +327,17 @@ impl Reached {
         lines.push_str("reduced words:");
         for met in REDUCED {
             lines.push_str(&format!(" {met:?} × {};", self.times_reduced(met)));
+        }
+        lines.push_str("\nopening:");
+        for number in OPENING {
+            lines.push_str(&format!(" {number} × {};", self.times_opened(number)));
+        }
+        for found in FOUND {
+            lines.push_str(&format!(" {found:?} × {};", self.times_found(found)));
+        }
+        lines.push_str("\ndamaged:");
+        for ((damage, number), times) in &self.damaged {
+            lines.push_str(&format!(" {damage:?} {number} × {times};"));
         }
         lines.push('\n');
         lines
@@ -302,6 +362,9 @@ impl Reached {
         same("22 (kind, moved, type)", &listed_over_posting(), &self.over_posting)?;
         let reduced = self.reduced.keys().copied().collect();
         same("reduced words (what was met, type)", &listed_reduced(), &reduced)?;
+        same("20", &FOUND.into(), &self.found.keys().copied().collect())?;
+        let damaged = self.damaged.keys().copied().collect();
+        same("opening (damage, number)", &listed_damaged(), &damaged)?;
         same("call (name, number)", &listed_calls(), &self.calls)
     }
 }
@@ -393,10 +456,17 @@ pub fn listed_effects() -> BTreeSet<Effect> {
     effects
 }
 
+/// Each damage with the numbers that a ledger so damaged can give.
+pub fn listed_damaged() -> BTreeSet<(Damage, u32)> {
+    let numbers = |damage: Damage| damage.numbers().iter().map(move |&number| (damage, number));
+    Damage::ALL.into_iter().flat_map(numbers).collect()
+}
+
 fn listed_calls() -> BTreeSet<(&'static str, u32)> {
-    let calls: [(&str, &[u32]); 5] = [
+    let calls: [(&str, &[u32]); 6] = [
         ("charge", &CHARGE),
         ("create", &CREATE),
+        ("open", &OPENING),
         ("batch", &BATCH),
         ("read stamp", &READ_STAMP),
         ("write stamp", &WRITE_STAMP),
@@ -434,7 +504,18 @@ mod tests {
         let all_met = || listed_reduced().into_iter().map(|met| (met, 1)).collect();
         reached.reduced = all_met();
         reached.calls = listed_calls();
+        let all_found = || FOUND.into_iter().map(|found| (found, 1)).collect();
+        reached.found = all_found();
+        reached.damaged = listed_damaged().into_iter().map(|damaged| (damaged, 1)).collect();
         assert_eq!(reached.check(), Ok(()));
+        reached.calls.remove(&("open", UNBALANCED));
+        assert!(reached.check().unwrap_err().contains("never reached [(\"open\", 20)]"));
+        reached.calls = listed_calls();
+        for found in FOUND {
+            reached.found.remove(&found);
+            assert!(reached.check().unwrap_err().contains(&format!("never reached [{found:?}]")));
+            reached.found = all_found();
+        }
         reached.pairs.remove(&(LAPSE, NOT_APPROVED, Of::Plain));
         assert!(reached.check().unwrap_err().contains("(6, 13, Plain)"));
         reached.pairs = once();
@@ -449,6 +530,9 @@ mod tests {
         reached.reduced = all_met();
         reached.reduced.insert((Reduced::Annulled, RELINQUISH), 1);
         assert!(reached.check().unwrap_err().contains("not in the paper [(Annulled, 8)]"));
+        reached.reduced = all_met();
+        reached.damaged.insert((Damage::Unsound, UNBALANCED), 1);
+        assert!(reached.check().unwrap_err().contains("not in the paper [(Unsound, 20)]"));
     }
 
     /// What a reduction meets in the reduced words of a row.

@@ -1,4 +1,4 @@
-//! What is tested: the six calls, by whomever they are carried out.
+//! What is tested: the seven calls, by whomever they are carried out.
 
 #[cfg(feature = "archive")]
 use crate::converted::{action_to_library, answer_to_library, answer_to_model};
@@ -9,6 +9,7 @@ pub use luddrisa_model::{Action, Answer};
 pub trait Rules {
     /// Numbers are rows, hours, provider, window, base.
     fn create(&self, ledger: &mut [u32], numbers: [u32; 5]) -> u32;
+    fn open(&self, ledger: &[u32]) -> u32;
     fn batch(
         &self,
         ledger: &mut [u32],
@@ -29,6 +30,10 @@ pub struct Model;
 impl Rules for Model {
     fn create(&self, ledger: &mut [u32], [rows, hours, provider, window, base]: [u32; 5]) -> u32 {
         model::create(ledger, rows, hours, provider, window, base)
+    }
+
+    fn open(&self, ledger: &[u32]) -> u32 {
+        model::open(ledger)
     }
 
     fn batch(
@@ -77,6 +82,10 @@ pub struct Library;
 impl Rules for Library {
     fn create(&self, ledger: &mut [u32], [rows, hours, provider, window, base]: [u32; 5]) -> u32 {
         luddrisa::calls::create(ledger, rows, hours, provider, window, base)
+    }
+
+    fn open(&self, ledger: &[u32]) -> u32 {
+        luddrisa::calls::open(ledger)
     }
 
     fn batch(

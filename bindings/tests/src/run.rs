@@ -146,11 +146,37 @@ impl<'a> Run<'a> {
         Ok((ours, ledger))
     }
 
+    /// Opening, which leaves every word as it is.
+    pub fn open(&mut self, ledger: &Twice) -> Result<u32, Difference> {
+        let ours = Model.open(&ledger.model);
+        let theirs = self.subject.open(ledger.subject());
+        if ours != theirs {
+            return Err(format!("opening: {theirs}, by the model {ours}"));
+        }
+        ledger.compare("ledger", || format!("opening answered {ours}"))?;
+        self.reached.note_opening(&ledger.model, ours);
+        Ok(ours)
+    }
+
+    /// Opening of words.
+    pub fn open_words(&mut self, words: &[u32]) -> Result<u32, Difference> {
+        self.open(&Twice::new(words))
+    }
+
+    /// Opening of a ledger that must open.
+    pub fn opens(&mut self, ledger: &Twice) -> Result<(), Difference> {
+        match self.open(ledger)? {
+            0 => Ok(()),
+            number => Err(format!("does not open, but gives {number}")),
+        }
+    }
+
     /// A fresh ledger with nothing posted; the numbers must be good.
     pub fn fresh(&mut self, numbers: [u32; 5]) -> Result<Desk, Difference> {
         let old = vec![7; ledger_words(numbers[0], numbers[1])];
         let (number, ledger) = self.create(&old, numbers)?;
         assert_eq!(number, 0, "numbers of a fresh ledger");
+        self.opens(&ledger)?;
         Ok(Desk { ledger, postings: Twice::new(&vec![0; posting_words(numbers[1])]) })
     }
 

@@ -4,10 +4,12 @@
 use std::io::Write;
 use std::time::Instant;
 
-use luddrisa_tests::faults::{FAULTS, JUDGED_APART};
+use luddrisa_model::{BAD_LEDGER, UNBALANCED};
+use luddrisa_tests::faults::{FAULTS, JUDGED_APART, OPENED_APART};
+use luddrisa_tests::reached::FOUND;
 use luddrisa_tests::rules::{Model, Rules};
 use luddrisa_tests::run::{Difference, Run};
-use luddrisa_tests::{batches, dense, edges, lists, stamps};
+use luddrisa_tests::{batches, dense, edges, lists, openings, stamps};
 
 #[cfg(feature = "archive")]
 const SUBJECT: &dyn Rules = &luddrisa_tests::rules::Library;
@@ -34,7 +36,11 @@ fn everything(run: &mut Run, seed: u64, scale: u32) -> Result<(), Difference> {
     edges::edges(run, seed, 2 * scale)?;
     edges::reductions(run)?;
     batches::batches(run, seed, 4 * scale)?;
-    stamps::stamps(run, seed, 200 * scale)
+    stamps::stamps(run, seed, 200 * scale)?;
+    openings::openings(run, seed, 10 * scale)?;
+    openings::day_word_by_word(run)?;
+    openings::every_length(run)?;
+    openings::of_many_rows(run)
 }
 
 #[test]
@@ -55,6 +61,40 @@ fn limits_judged_apart_agree_with_the_model() {
     expect_agreement(everything(&mut Run::new(&JUDGED_APART), SEED, 40));
 }
 
+/// Opening worked out a second time, from what each row should still hold.
+#[test]
+fn openings_worked_out_apart_agree_with_the_model() {
+    expect_agreement(everything(&mut Run::new(&OPENED_APART), SEED, 40));
+}
+
+/// All three answers, and a 20 by the equation alone and by the tree alone.
+#[test]
+fn ledgers_open_with_each_number() {
+    let mut run = Run::new(SUBJECT);
+    let start = Instant::now();
+    let agree =
+        openings::openings(&mut run, SEED, 2_000).and_then(|()| openings::greatest(&mut run));
+    println!("in {:.1} s\n{}", start.elapsed().as_secs_f64(), run.reached.told());
+    expect_agreement(agree);
+    for (number, least) in [(0, 20_000), (BAD_LEDGER, 20_000), (UNBALANCED, 20_000)] {
+        let times = run.reached.times_opened(number);
+        assert!(times >= least, "{number} only {times} times");
+    }
+    for found in FOUND {
+        let times = run.reached.times_found(found);
+        assert!(times >= 1_000, "{found:?} only {times} times");
+    }
+}
+
+/// A day at the desk, a chain and a wide ledger of 1,024 rows, word by word.
+#[test]
+fn a_changed_word_is_seen_on_opening() {
+    let mut run = Run::new(SUBJECT);
+    expect_agreement(openings::day_word_by_word(&mut run));
+    expect_agreement(openings::every_length(&mut run));
+    expect_agreement(openings::of_many_rows(&mut run));
+}
+
 #[test]
 fn planted_faults_are_caught() {
     // Without a fault the same seeds find nothing.
@@ -71,7 +111,19 @@ fn planted_faults_are_caught() {
         }
     }
     assert!(missed.is_empty(), "not caught: {missed:?}");
-    assert!(FAULTS.len() > 135, "only {}", FAULTS.len());
+    assert!(FAULTS.len() > 180, "only {}", FAULTS.len());
+}
+
+/// The generator of openings needs no other to find a fault in them.
+#[test]
+fn openings_alone_catch_their_faults() {
+    let openings = |subject: &dyn Rules| openings::openings(&mut Run::new(subject), SEED, 200);
+    assert_eq!(openings(&Model), Ok(()));
+    let of_opening: Vec<_> = FAULTS.iter().filter(|faulty| faulty.is_of_opening()).collect();
+    assert!(of_opening.len() > 30, "only {}", of_opening.len());
+    for faulty in of_opening {
+        assert!(openings(faulty).is_err(), "not caught: {}", faulty.name);
+    }
 }
 
 #[test]
@@ -85,6 +137,20 @@ fn the_balance_alone_catches_lost_megawatts() {
     for faulty in unbalanced {
         assert!(lists(faulty).is_some(), "not caught: {}", faulty.name);
     }
+}
+
+/// The balance goes by the list, opening by the words alone, so it is not told of an
+/// action that wrote nothing.
+#[test]
+fn opening_alone_catches_lost_megawatts() {
+    let lists = |subject: &dyn Rules| {
+        (SEED..SEED + 400).find_map(|seed| lists::opening_of(subject, seed).err())
+    };
+    expect_agreement(lists(SUBJECT).map_or(Ok(()), Err));
+    let unbalanced = FAULTS.iter().filter(|faulty| faulty.unbalanced);
+    let missed: Vec<_> =
+        unbalanced.filter(|faulty| lists(*faulty).is_none()).map(|faulty| faulty.name).collect();
+    assert_eq!(missed, ["accepts and writes nothing"]);
 }
 
 #[test]

@@ -170,6 +170,14 @@ fn act(
     Ran::Altered
 }
 
+// The number that opening gives.
+fn open(l: &[u32], f: &[u32], got: &mut [u32; MOST_NUMBERS]) -> Ran {
+    if f.len() != 0 {
+        return Ran::Unreadable;
+    }
+    one(got, opening::open_number(l))
+}
+
 // The number of the charge of a row, its millions of cents and the cents beyond them.
 fn charge(l: &[u32], f: &[u32], got: &mut [u32; MOST_NUMBERS]) -> Ran {
     if f.len() != 1 {
@@ -294,6 +302,9 @@ fn of_ledger(
     }
     if same(verb, b"spoil-row") {
         return spoil_row(l, f);
+    }
+    if same(verb, b"open") {
+        return open(&l[..], f, got);
     }
     if same(verb, b"charge") {
         return charge(&l[..], f, got);

@@ -7,3 +7,4 @@ pub mod Shapes
 pub mod Uses
 pub mod Trees
 pub mod Final
+pub mod Opening

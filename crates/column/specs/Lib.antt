@@ -3,3 +3,4 @@ pub mod Column
 pub mod Use
 pub mod Step
 pub mod Demand
+pub mod Open

@@ -152,7 +152,7 @@ pub const FULL_TRANSFER: u32 = 7;
 
 pub const RELINQUISH: u32 = 8;
 
-// Refusals, by their numbers: what an action, a charge or a creation answers where it is not carried out.
+// Refusals, by their numbers: what an action, a charge, a creation or an opening answers where it is not carried out.
 pub const UNSOUND: u32 = 1;
 
 pub const OUT_OF_RANGE: u32 = 2;
@@ -186,6 +186,8 @@ pub const PARTLY_USED: u32 = 15;
 pub const TOO_EARLY: u32 = 16;
 
 pub const FEWER_ANSWERS: u32 = 17;
+
+pub const UNBALANCED: u32 = 20;
 
 pub const WRONG_PATH: u32 = 21;
 

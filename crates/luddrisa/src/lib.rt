@@ -3,6 +3,7 @@ ghost use mathlib.Core.Path.{_≡_};
 ghost use lib.ListN.{length};
 ghost use Rattle.rules.specs.Create.{createNumber, created};
 ghost use Rattle.rules.specs.Calls.{togetherNumber, togetherRun, togetherAnswers};
+ghost use Rattle.rules.specs.Open.{openNumber};
 ghost use Rattle.rules.specs.ReadOut.{shown, charge as chargeOf};
 ghost use Rattle.stamp.specs.Stamp.{reading, writeNumber, written};
 ghost use Rattle.luddrisa.specs.HandedOut.{handedOut};
@@ -24,6 +25,14 @@ pub extern "C" fn luddrisa_create(
     ensures ledger { λ r. ⌜ now (ledger .exit) ≡ created (now (ledger .entry)) rows hours provider window base ⌝ }
 {
     layout::create::create(ledger, rows, hours, provider, window, base)
+}
+
+// Opening: 0, 1 for an unsound ledger, or 20 where some hour does not balance. The ledger is only read.
+#[no_mangle]
+pub extern "C" fn luddrisa_open(ledger: &[u32]) -> u32
+    ensures { λ r. ⌜ r ≡ openNumber (now (ledger .entry)) ⌝ }
+{
+    opening::open_number(ledger)
 }
 
 // Actions in turn, each answered; ledger and postings are tested once. 17: fewer answers than actions, nothing done.

@@ -40,22 +40,22 @@ or-either : (b c : Bool) → (b || c) ≡ either b c
 or-either true c = refl
 or-either false c = refl
 
-module _ (t : Tally) (ref : ℕ → ℕ) (u o : ℕ) (same : (n : ℕ) → n < u → t (suc n) .related ≡ ref n) (lower : (n : ℕ) → ref n ≤ n) where
-  pub descent : (k n : ℕ) → n ≤ k → n < u → descendsWithin (suc k) t (suc o) (suc n) ≡ within ref k o n
+module _ (rel ref : ℕ → ℕ) (u o : ℕ) (same : (n : ℕ) → n < u → rel (suc n) ≡ ref n) (lower : (n : ℕ) → ref n ≤ n) where
+  pub descent : (k n : ℕ) → n ≤ k → n < u → descendsWithin (suc k) rel (suc o) (suc n) ≡ within ref k o n
   unfolding descendsWithin within
   descent zero n le lt =
       let z : ref n ≡ 0 = omega (arith, lower n) in
       ap (λ (x : ℕ). eqb (suc n) (suc o) || (not (eqb x 0) && false)) (same n lt ∙ z) ∙ or-false (eqb (suc n) (suc o)) ∙ same-number n o
   descent (suc k) n le lt =
-      ap (λ (x : ℕ). eqb (suc n) (suc o) || (not (eqb x 0) && descendsWithin (suc k) t (suc o) x)) (same n lt)
-      ∙ ap (λ (b : Bool). b || (not (eqb (ref n) 0) && descendsWithin (suc k) t (suc o) (ref n))) (same-number n o)
+      ap (λ (x : ℕ). eqb (suc n) (suc o) || (not (eqb x 0) && descendsWithin (suc k) rel (suc o) x)) (same n lt)
+      ∙ ap (λ (b : Bool). b || (not (eqb (ref n) 0) && descendsWithin (suc k) rel (suc o) (ref n))) (same-number n o)
       ∙ or-either (eqb n o) _
       ∙ ap (either (eqb n o)) (above (ref n) (λ p e. descent k p (omega (arith, lower n)) (omega (arith, lower n))))
     where
-      above : (m : ℕ) → ((p : ℕ) → m ≡ suc p → descendsWithin (suc k) t (suc o) (suc p) ≡ within ref k o p) → (not (eqb m 0) && descendsWithin (suc k) t (suc o) m) ≡ up (λ p. within ref k o p) m
+      above : (m : ℕ) → ((p : ℕ) → m ≡ suc p → descendsWithin (suc k) rel (suc o) (suc p) ≡ within ref k o p) → (not (eqb m 0) && descendsWithin (suc k) rel (suc o) m) ≡ up (λ p. within ref k o p) m
       above zero f = refl
       above (suc p) f =
-          ap (λ (b : Bool). not b && descendsWithin (suc k) t (suc o) (suc p)) (ne-eqb (suc p) 0 (λ q. omega arith))
+          ap (λ (b : Bool). not b && descendsWithin (suc k) rel (suc o) (suc p)) (ne-eqb (suc p) 0 (λ q. omega arith))
           ∙ f p refl
 
   -- one step more is as good
@@ -68,7 +68,7 @@ module _ (t : Tally) (ref : ℕ → ℕ) (u o : ℕ) (same : (n : ℕ) → n < u
       above zero f = refl
       above (suc p) f = f p refl
 
-  pub enough : (n : ℕ) → n < u → descendsWithin (suc (suc n)) t (suc o) (suc n) ≡ within ref n o n
+  pub enough : (n : ℕ) → n < u → descendsWithin (suc (suc n)) rel (suc o) (suc n) ≡ within ref n o n
   enough n lt = descent (suc n) n (omega arith) lt ∙ descent-more n n (omega arith) lt
 
 -- ---- a sum over references is a sum over rows
@@ -87,7 +87,7 @@ not-negative (pos n) h = tt
 not-negative (negsuc n) h = h
 
 -- ---- tests as facts
-live-is : (s : ℕ) → live s ≡ true → Live s
+pub live-is : (s : ℕ) → live s ≡ true → Live s
 unfolding live
 live-is s e = go (ℕ-discrete s 13) (ℕ-discrete s 15)
   where
@@ -99,7 +99,7 @@ live-is s e = go (ℕ-discrete s 13) (ℕ-discrete s 15)
         let o : _≡_ {A = ℕ} 0 1 = cc in
         absurd (omega arith)
 
-original-is : (t : ℕ) → original t ≡ true → (t ≡ 1) ⊎ (t ≡ 2)
+pub original-is : (t : ℕ) → original t ≡ true → (t ≡ 1) ⊎ (t ≡ 2)
 original-is t e = go (ℕ-discrete t 1)
   where
     go : Dec (t ≡ 1) → (t ≡ 1) ⊎ (t ≡ 2)
@@ -221,16 +221,16 @@ module _ {B : ℕ → ℕ → ℕ} {l : List ℕ} {t : Tally} (G : Good B l t) w
             ap pos (granted-is n h lt hlt)
             ∙ D .tree n is-live ty
             ∙ sym (sum-rows (used l) _ _ (λ m mlt.
-            gate-pick (descendsWithin (suc (suc m)) t (suc n) (suc m)) (holding l reduced h (suc m))
+            gate-pick (descendsWithin (suc (suc m)) (λ q. t q .related) (suc n) (suc m)) (holding l reduced h (suc m))
             ∙ ap (λ (b : Bool). gateℤ b (holding l reduced h (suc m))) (deeper m mlt)
             ∙ ap (gateℤ (inside (λ i. related (row (hours l) l i)) n m)) (held-in m mlt)))
           where
             relates : (i : ℕ) → i < used l → t (suc i) .related ≡ related (row (hours l) l i)
             relates i ilt = G .good .entries i ilt .same-related
 
-            deeper : (m : ℕ) → m < used l → descendsWithin (suc (suc m)) t (suc n) (suc m) ≡ inside (λ i. related (row (hours l) l i)) n m
+            deeper : (m : ℕ) → m < used l → descendsWithin (suc (suc m)) (λ q. t q .related) (suc n) (suc m) ≡ inside (λ i. related (row (hours l) l i)) n m
             deeper m mlt =
-                enough t (λ i. related (row (hours l) l i)) (used l) n relates (G .good .columns h hlt .shape .lower) m mlt
+                enough (λ q. t q .related) (λ i. related (row (hours l) l i)) (used l) n relates (G .good .columns h hlt .shape .lower) m mlt
 
   pub balanced : Balanced l t
   balanced = record {

@@ -47,6 +47,8 @@ pub mod Balanced
 pub mod Lists
 pub mod Batches
 pub mod Demand
+pub mod Opening
 pub mod Day
 pub mod Limited
 pub mod Reduced
+pub mod Opened

@@ -30,13 +30,14 @@ abbrev pub NotNegative : ℤ → Type 0
 NotNegative (pos n) = Unit {0}
 NotNegative (negsuc n) = ⊥
 
--- reference r is o, or descends from it: r steps up are enough, since a related reference is smaller
-unfoldable pub descendsWithin : ℕ → Tally → ℕ → ℕ → Bool
-descendsWithin zero t o r = false
-descendsWithin (suc n) t o r = eqb r o || (not (eqb (t r .related) 0) && descendsWithin n t o (t r .related))
+-- reference r is o, or descends from it, where up gives the related reference of each, 0 for none: r steps up are
+-- enough, since a related reference is smaller
+unfoldable pub descendsWithin : ℕ → (ℕ → ℕ) → ℕ → ℕ → Bool
+descendsWithin zero up o r = false
+descendsWithin (suc n) up o r = eqb r o || (not (eqb (up r) 0) && descendsWithin n up o (up r))
 
-unfoldable pub descends : Tally → ℕ → ℕ → Bool
-descends t o r = descendsWithin (suc r) t o r
+unfoldable pub descends : (ℕ → ℕ) → ℕ → ℕ → Bool
+descends up o r = descendsWithin (suc r) up o r
 
 unfoldable pub sumTo : ℕ → (ℕ → ℤ) → ℤ
 sumTo zero f = pos 0
@@ -79,7 +80,7 @@ pub record Five (t : Tally) (r h : ℕ) : Type 0 where
 -- granted of an original is what it and all that descend from it hold
 unfoldable pub Tree : List ℕ → Tally → (ℕ → ℕ → ℤ) → ℕ → ℕ → Type 0
 Tree l t reduced o h =
-    pos (grantedIn (t o) h) ≡ sumTo (used l) (λ r. pick (descends t o r) (holding l reduced h r) (pos 0))
+    pos (grantedIn (t o) h) ≡ sumTo (used l) (λ r. pick (descends (λ q. t q .related) o r) (holding l reduced h r) (pos 0))
 
 -- the ledger and the tally balance
 pub record Balanced (l : List ℕ) (t : Tally) : Type 0 where

@@ -21,6 +21,7 @@ pub mod Calls
 pub mod Tally
 pub mod Balance
 pub mod Limits
+pub mod Open
 pub mod ReadOut
 pub mod Day
 pub mod Rules

@@ -103,6 +103,13 @@ filling-kept {d₀} {f} {end} {d} {i} h lt = ap (λ (l : List ℕ). getD l i 0) 
 pub filling-done : {d₀ : List ℕ} {f : ℕ → ℕ} {end : ℕ} {d : List ℕ} {i : ℕ} → Filling d₀ f end d i → end ≤ i → d ≡ build (length d₀) f
 filling-done {d₀} {f} {end} {d} {i} h past = h .is ∙ filled-all d₀ f i (omega (arith, h .ended)) (omega (arith, h .ended, h .below))
 
+-- a word that is filled in already; a turn by what is stored
+pub filled-before : (d : List ℕ) (f : ℕ → ℕ) (i k : ℕ) → k < i → getD (filled d f i) k 0 ≡ f k
+filled-before d f i k lt = List·getD-append (build i f) (drop i d) 0 k (subst (λ (x : ℕ). k < x) (sym (build-length i f)) lt) ∙ build-at i f k lt
+
+pub filling-by : {d₀ : List ℕ} {f : ℕ → ℕ} {end : ℕ} {d d′ : List ℕ} {i : ℕ} → Filling d₀ f end d i → i < end → (v : ℕ) → v ≡ f i → d′ ≡ set d i v → Filling d₀ f end d′ (i + 1)
+filling-by {d₀} {f} {end} {d} {d′} {i} h lt v e q = subst (λ (x : List ℕ). Filling d₀ f end x (i + 1)) (sym q) (filling-turn h lt v e)
+
 -- ---- allBelow: true so far; a failure; congruence; what it says
 pub all-none : (p : ℕ → Bool) → allBelow 0 p ≡ true
 unfolding allBelow
@@ -276,6 +283,14 @@ pub sum-bound : (n b : ℕ) (f : ℕ → ℕ) → ((k : ℕ) → k < n → f k �
 unfolding sumBelow
 sum-bound zero b f h = zero-le
 sum-bound (suc n) b f h = omega (arith, sum-bound n b f (λ k lt. h k (omega arith)), h n (omega arith), suc-mul n b)
+
+pub sum-nothing : (n : ℕ) (f : ℕ → ℕ) → ((k : ℕ) → k < n → f k ≡ 0) → sumBelow n f ≡ 0
+sum-nothing n f none = omega (arith, sum-bound n 0 f (λ k lt. omega (arith, none k lt)))
+
+pub sum-add : (n : ℕ) (f g : ℕ → ℕ) → sumBelow n (λ k. f k + g k) ≡ sumBelow n f + sumBelow n g
+unfolding sumBelow
+sum-add zero f g = refl
+sum-add (suc n) f g = omega (arith, sum-add n f g)
 
 -- the invariant of a loop that adds up f, each at most b; its start, a turn, its end
 pub record Summing (n b : ℕ) (f : ℕ → ℕ) (end s i : ℕ) : Type 0 where

@@ -1,0 +1,250 @@
+-- Sums by hour: a profile, a share and a chain added, and the sums compared.
+use mathlib.Core.Path.{_≡_, sym, ap, subst, _∙_}
+use mathlib.Core.Logic.{_≢_}
+use mathlib.Core.Bool.{Bool, true, false, _||_, not}
+use mathlib.Core.List.{List}
+use Prim.Native.Nat.{ℕ, _+_, _-_, _≤_, _<_}
+use native.Mathlib.Nat.{mul-le-mul-right}
+use native.Mathlib.Omega.{arith}
+use lib.Dec.{eqb, leb, lit<}
+use lib.ListN.{length, getD, take, drop}
+use borrow.Author.Tests.{le-leb}
+use Rattle.words.specs.Lists.{wordAt, build, allBelow, sumBelow, zip2, noughts, equal, roomy, mostWord}
+use Rattle.words.proofs.Laws.{and-right, all-cong, all-below, sum-cong, build-length, build-at, zip-length, part-length, part-at, noughts-length, noughts-at}
+use Rattle.rules.specs.Pick.{pick}
+use Rattle.rules.specs.Numbers.{profiles, mostMegawatts, grantedPart, availablePart, displacedPart, reducedPart, NONFIRM-REDIRECT}
+use Rattle.rules.specs.Layout.{used, row, rowSize, reqtype, hourAt, hoursOf}
+use Rattle.rules.specs.Open.{grantedOf, heldOf, stands, drawsOn, inTree, treeBalances, hasEquation, hasTree, balancedRow, balancedTree}
+use Rattle.rules.proofs.Rows.{row-length}
+use Rattle.rules.proofs.Seen.{hour-in}
+use Rattle.rules.proofs.SoundFacts.{SoundHours}
+use Rattle.rules.proofs.Types.{original-range}
+use Rattle.layout.specs.SoundAt.{SoundAt}
+use Rattle.layout.specs.Places.{RowAt, HoursAt}
+use Rattle.layout.proofs.SoundAt.{sized-at}
+use Rattle.layout.proofs.Lent.{row-lent, row-lent-length, hours-lent, hours-lent-length}
+use Rattle.paths.specs.Changes.{Adds, Summed}
+use Rattle.paths.proofs.Hourly.{adds-adds}
+use Rattle.opening.specs.Chains.{drawLink, rootLink, Chained, Unchained, Falling, chainSum}
+use Rattle.opening.specs.Shares.{shareOf, sharesOn, balancedShares, mostShare, mostSum, Sums}
+use Rattle.opening.proofs.Chained.{last-falls, chained-as, chain-none, chain-next, chain-most, chain-last}
+use Rattle.opening.proofs.Linked.{relations-at, draws-linked, tree-linked}
+use Rattle.opening.proofs.Shared.{same-equality, rows-by-shares}
+
+-- ---- the hours of a row in use
+module _ {l : List ℕ} {R H : ℕ} (s : SoundAt l R H) where
+  pub in-rows : {n : ℕ} → n < used l → n < R
+  in-rows lt = omega (arith, lt, s .rows, s .sound .head .used)
+
+  pub few : used l ≤ 1024
+  few = omega (arith, s .sound .head .used, s .sound .head .rows-most)
+
+  words-of : {n : ℕ} → n < used l → SoundHours H (row H l n)
+  words-of {n} lt = subst (λ (k : ℕ). SoundHours k (row k l n)) (sym (s .hours)) (s .sound .profiles n lt)
+
+  module _ (n p : ℕ) (lt : n < used l) (plt : p < profiles) where
+    hours-in : hourAt H p 0 + H ≤ length (row H l n)
+    hours-in = let long : length (row H l n) ≡ rowSize H = row-length (sized-at s) (in-rows lt) in omega (arith, hour-in H plt, long)
+
+    hours-at : (h : ℕ) → h < H → wordAt (hoursOf H p 0 H (row H l n)) h ≡ wordAt (row H l n) (hourAt H p h)
+    hours-at h hlt =
+        let e : hourAt H p 0 + h ≡ hourAt H p h = omega arith in
+        part-at (row H l n) (hourAt H p 0) H hours-in h hlt ∙ ap (wordAt (row H l n)) e
+
+    hours-long : length (hoursOf H p 0 H (row H l n)) ≡ H
+    hours-long = part-length (row H l n) (hourAt H p 0) H hours-in
+
+    module _ {sums : List ℕ} (o : Sums H (mostSum + mostShare) sums) where
+      pub hours-room : roomy mostWord (hoursOf H p 0 H (row H l n)) sums ≡ true
+      unfolding roomy
+      hours-room =
+          all-below (λ h. leb (wordAt (hoursOf H p 0 H (row H l n)) h + wordAt sums h) mostWord) (length (hoursOf H p 0 H (row H l n)))
+          (λ h hlt. let k : h < H = omega (arith, hlt, hours-long) in le-leb (wordAt (hoursOf H p 0 H (row H l n)) h + wordAt sums h) mostWord (omega (arith, hours-at h k, words-of lt .most p h plt k, o .most h k)))
+
+      pub hours-added : {next : List ℕ} → next ≡ zip2 _+_ sums (hoursOf H p 0 H (row H l n)) → Adds (λ h. wordAt (row H l n) (hourAt H p h)) sums next
+      unfolding zip2
+      hours-added e = record {
+        long = ap length e ∙ zip-length _+_ sums (hoursOf H p 0 H (row H l n));
+        each = λ h hlt.
+            ap (λ (x : List ℕ). getD x h 0) e
+            ∙ build-at (length sums) _ h hlt
+            ∙ ap (λ (x : ℕ). getD sums h 0 + x) (hours-at h (omega (arith, hlt, o .long)));
+      }
+
+    pub hours-compared : (sums : List ℕ) → length sums ≡ H → equal sums (hoursOf H p 0 (length sums) (row H l n)) ≡ allBelow H (λ h. eqb (wordAt sums h) (wordAt (row H l n) (hourAt H p h)))
+    unfolding equal
+    hours-compared sums e =
+        ap (λ (k : ℕ). allBelow k (λ h. eqb (wordAt sums h) (wordAt (hoursOf H p 0 k (row H l n)) h))) e
+        ∙ all-cong _ _ H (λ h hlt. ap (eqb (wordAt sums h)) (hours-at h hlt))
+
+  -- as they are lent
+  module _ {n p at from : ℕ} (a : RowAt R H n at) (f : HoursAt H p 0 H from) where
+    pub lent-hours : take (from + H - from) (drop from (take (at + rowSize H - at) (drop at l))) ≡ hoursOf H p 0 H (row H l n)
+    lent-hours =
+        hours-lent (take (at + rowSize H - at) (drop at l)) (row-lent-length (sized-at s) a) f
+        ∙ ap (λ (r : List ℕ). hoursOf H p 0 H r) (row-lent (sized-at s) a)
+
+    pub lent-long : length (take (from + H - from) (drop from (take (at + rowSize H - at) (drop at l)))) ≡ H
+    lent-long = hours-lent-length (take (at + rowSize H - at) (drop at l)) (row-lent-length (sized-at s) a) f
+
+  -- ---- shares
+  module _ {n h : ℕ} (lt : n < used l) (hlt : h < H) where
+    pub word-most : (p : ℕ) → p < profiles → wordAt (row H l n) (hourAt H p h) ≤ mostMegawatts
+    word-most p plt = words-of lt .most p h plt hlt
+
+    pub held-most : heldOf H l h n ≤ mostShare
+    unfolding heldOf
+    held-most = omega (arith, word-most availablePart (lit< tt), word-most displacedPart (lit< tt), word-most reducedPart (lit< tt))
+
+    pub share-most : (held : Bool) → shareOf H l held h n ≤ mostShare
+    unfolding shareOf grantedOf
+    share-most true = held-most
+    share-most false = go (eqb (reqtype (row H l n)) NONFIRM-REDIRECT)
+      where
+        go : (b : Bool) → pick b (heldOf H l h n) (wordAt (row H l n) (hourAt H grantedPart h)) ≤ mostShare
+        go true = held-most
+        go false = omega (arith, word-most grantedPart (lit< tt))
+
+-- ---- room in sums
+pub sums-wider : {H b b′ : ℕ} {sums : List ℕ} → b ≤ b′ → Sums H b sums → Sums H b′ sums
+sums-wider le o = record { long = o .long; most = λ h lt. omega (arith, le, o .most h lt) }
+
+pub sums-after : {H b b′ m : ℕ} {f : ℕ → ℕ} {sums next : List ℕ} → b + m ≤ b′ → ((h : ℕ) → h < H → f h ≤ m) → Sums H b sums → Adds f sums next → Sums H b′ next
+sums-after le most o a = record { long = a .long ∙ o .long; most = λ h lt. omega (arith, le, most h lt, o .most h lt, a .each h (omega (arith, lt, o .long))) }
+
+pub sums-none : (H : ℕ) (sums : List ℕ) {next : List ℕ} → length sums ≡ H → next ≡ noughts (length sums) → Sums H 0 next
+sums-none H sums e q = record {
+  long = ap length q ∙ noughts-length (length sums) ∙ e;
+  most = λ h lt. omega (arith, ap (λ (x : List ℕ). getD x h 0) q, noughts-at (length sums) h);
+}
+
+pub held-added : (H : ℕ) (l : List ℕ) (n : ℕ) {sums one two next : List ℕ}
+    → Adds (λ h. wordAt (row H l n) (hourAt H availablePart h)) sums one → Adds (λ h. wordAt (row H l n) (hourAt H displacedPart h)) one two → Adds (λ h. wordAt (row H l n) (hourAt H reducedPart h)) two next
+    → Adds (λ h. heldOf H l h n) sums next
+unfolding heldOf
+held-added H l n a d r = adds-adds (adds-adds a d) r
+
+-- ---- the walk of a chain, from reference last on, at reference m
+pub record Walking (H : ℕ) (l : List ℕ) (held : Bool) (befores sums₀ : List ℕ) (last : ℕ) (sums : List ℕ) (m : ℕ) : Type 0 where
+  pub below : m ≤ used l
+  pub long : length sums ≡ H
+  pub each : (h : ℕ) → h < H → getD sums h 0 + chainSum befores (λ c. shareOf H l held h c) m ≡ getD sums₀ h 0 + chainSum befores (λ c. shareOf H l held h c) last
+
+module _ {H : ℕ} {l : List ℕ} {held : Bool} {befores sums₀ : List ℕ} {last : ℕ} {sums : List ℕ} {m : ℕ} (i : Walking H l held befores sums₀ last sums m) where
+  pub walking-turn : Falling (used l) befores → m ≢ 0 → {next : List ℕ} → Adds (λ h. shareOf H l held h (m - 1)) sums next → Walking H l held befores sums₀ last next (getD befores (m - 1) 0)
+  walking-turn F ne a =
+      let low = F .falls (m - 1) (omega (arith, ne, i .below)) in
+      record {
+        below = omega (arith, low, ne, i .below);
+        long = a .long ∙ i .long;
+        each = λ h lt. omega (arith, i .each h lt, a .each h (omega (arith, lt, i .long)), chain-next F (λ c. shareOf H l held h c) m ne (i .below));
+      }
+
+  pub walking-room : {R : ℕ} → SoundAt l R H → Falling (used l) befores → last ≤ used l → Sums H mostShare sums₀ → Sums H mostSum sums
+  walking-room s F le o = record {
+    long = i .long;
+    most = λ h lt.
+        omega (
+          arith,
+          i .each h lt,
+          o .most h lt,
+          chain-most F (λ c. shareOf H l held h c) mostShare (λ c clt. share-most s clt lt held) last last (omega arith) le,
+          mul-le-mul-right mostShare (let few : last ≤ 1024 = omega (arith, le, few s) in few),
+        );
+  }
+
+  pub walking-done : m ≡ 0 → length sums₀ ≡ H → Adds (λ h. chainSum befores (λ c. shareOf H l held h c) last) sums₀ sums
+  walking-done z long = record {
+    long = i .long ∙ sym long;
+    each = λ h lt.
+        let hlt : h < H = omega (arith, lt, long) in
+        omega (arith, i .each h hlt, ap (chainSum befores (λ c. shareOf H l held h c)) z, chain-none befores (λ c. shareOf H l held h c));
+  }
+
+-- ---- the sums of a row's equation, and of a tree
+module _ {l : List ℕ} {R H : ℕ} (s : SoundAt l R H) {lasts befores : List ℕ} {n : ℕ} (lt : n < used l) where
+  pub last-in : {link : ℕ → ℕ} → Chained link (used l) lasts befores → wordAt lasts (n + 1) ≤ used l
+  last-in {link} C = omega (arith, C .last (n + 1) (omega (arith, lt)), last-falls link (n + 1) (used l))
+
+  pub row-summed : Chained (λ m. drawLink H l m) (used l) lasts befores → (sums : List ℕ) {one two three : List ℕ} → length sums ≡ H → one ≡ noughts (length sums) → Adds (λ h. heldOf H l h n) one two
+      → Adds (λ h. chainSum befores (λ c. shareOf H l false h c) (wordAt lasts (n + 1))) two three → Summed H (λ h. heldOf H l h n + sharesOn H l h n) three
+  unfolding sharesOn
+  row-summed C sums long e a b =
+      let o = sums-none H sums long e in
+      record {
+        long = b .long ∙ a .long ∙ o .long;
+        each = λ h hlt.
+            omega (
+              arith,
+              o .most h hlt,
+              a .each h (omega (arith, hlt, o .long)),
+              b .each h (omega (arith, hlt, o .long, a .long)),
+              chain-last C (λ c. shareOf H l false h c) (n + 1) (omega (arith, lt)),
+              sum-cong (used l) (λ c. pick (eqb (drawLink H l c) (n + 1)) (shareOf H l false h c) 0) (λ c. pick (drawsOn H l n c) (shareOf H l false h c) 0) (λ c clt. ap (λ (x : Bool). pick x (shareOf H l false h c) 0) (sym (draws-linked H l n c))),
+            );
+      }
+
+  pub tree-summed : Chained (λ m. rootLink H l m) (used l) lasts befores → (sums : List ℕ) {one two : List ℕ} → length sums ≡ H → one ≡ noughts (length sums)
+      → Adds (λ h. chainSum befores (λ c. shareOf H l true h c) (wordAt lasts (n + 1))) one two → Summed H (λ h. sumBelow (used l) (λ m. pick (eqb (rootLink H l m) (n + 1)) (heldOf H l h m) 0)) two
+  unfolding shareOf
+  tree-summed C sums long e b =
+      let o = sums-none H sums long e in
+      record {
+        long = b .long ∙ o .long;
+        each = λ h hlt. omega (arith, o .most h hlt, b .each h (omega (arith, hlt, o .long)), chain-last C (λ c. heldOf H l h c) (n + 1) (omega (arith, lt)));
+      }
+
+-- ---- and what comparing them with granted says
+module _ {l : List ℕ} {R H : ℕ} (s : SoundAt l R H) {n : ℕ} (lt : n < used l) where
+  pub row-told : {b c : Bool} {sums : List ℕ} → b ≡ hasEquation H l n → b ≡ true → Summed H (λ h. heldOf H l h n + sharesOn H l h n) sums → c ≡ allBelow H (λ h. eqb (wordAt sums h) (wordAt (row H l n) (hourAt H grantedPart h))) → c ≡ balancedShares H l n
+  unfolding balancedShares grantedOf
+  row-told e t o q =
+      q
+      ∙ all-cong _ _ H (λ h hlt. ap (λ (x : ℕ). eqb x (wordAt (row H l n) (hourAt H grantedPart h))) (o .each h hlt))
+      ∙ ap (λ (x : Bool). not x || allBelow H (λ h. eqb (heldOf H l h n + sharesOn H l h n) (wordAt (row H l n) (hourAt H grantedPart h)))) (sym t ∙ e)
+
+  pub row-skipped : {b : Bool} → b ≡ hasEquation H l n → b ≡ false → true ≡ balancedShares H l n
+  unfolding balancedShares
+  row-skipped e f = ap (λ (x : Bool). not x || allBelow H (λ h. eqb (heldOf H l h n + sharesOn H l h n) (grantedOf H l h n))) (sym f ∙ e)
+
+  pub tree-told : {b c : Bool} {sums : List ℕ} → b ≡ hasTree H l n → b ≡ true → Summed H (λ h. sumBelow (used l) (λ m. pick (eqb (rootLink H l m) (n + 1)) (heldOf H l h m) 0)) sums → c ≡ allBelow H (λ h. eqb (wordAt sums h) (wordAt (row H l n) (hourAt H grantedPart h))) → c ≡ balancedTree H l n
+  unfolding balancedTree hasTree treeBalances grantedOf
+  tree-told {b} {c} {sums} e t o q =
+      let top = relations-at s n lt .originals (original-range _ (and-right (stands H l n) _ (sym e ∙ t)) .1) in
+      q
+      ∙ all-cong _ _ H (λ h hlt.
+      ap (λ (x : ℕ). eqb x (wordAt (row H l n) (hourAt H grantedPart h))) (o .each h hlt ∙ sym (tree-linked (relations-at s) n top (λ m. heldOf H l h m)))
+      ∙ same-equality (sumBelow (used l) (λ m. pick (inTree H l n m) (heldOf H l h m) 0)) (wordAt (row H l n) (hourAt H grantedPart h)) (wordAt (row H l n) (hourAt H grantedPart h)) (sumBelow (used l) (λ m. pick (inTree H l n m) (heldOf H l h m) 0)) (λ z. sym z) (λ z. sym z))
+      ∙ ap (λ (x : Bool). not x || allBelow H (λ h. treeBalances H l n h)) (sym t ∙ e)
+
+  pub tree-skipped : {b : Bool} → b ≡ hasTree H l n → b ≡ false → true ≡ balancedTree H l n
+  unfolding balancedTree
+  tree-skipped e f = ap (λ (x : Bool). not x || allBelow H (λ h. treeBalances H l n h)) (sym f ∙ e)
+
+-- ---- links that fill a table
+module _ {l : List ℕ} {R H : ℕ} (s : SoundAt l R H) (link : ℕ → ℕ) {links : List ℕ} (filled : links ≡ build (used l) link) where
+  pub links-unchained : ((n : ℕ) → n < used l → link n ≤ n + 1) → {lasts befores : List ℕ} → length lasts ≡ used l + 1 → length befores ≡ used l → Unchained links lasts befores
+  links-unchained low p q =
+      let e : length links ≡ used l = ap length filled ∙ build-length (used l) link in
+      record {
+        lasts-long = p ∙ ap (λ (k : ℕ). k + 1) (sym e);
+        befores-long = q ∙ sym e;
+        few = omega (arith, e, few s);
+        low = λ n lt.
+            let u : n < used l = omega (arith, lt, e) in
+            omega (arith, ap (λ (x : List ℕ). wordAt x n) filled, build-at (used l) link n u, low n u, e);
+      }
+
+  pub links-chained : {lasts befores : List ℕ} → Chained (λ n. wordAt links n) (length links) lasts befores → Chained link (used l) lasts befores
+  links-chained {lasts} {befores} c =
+      let e : length links ≡ used l = ap length filled ∙ build-length (used l) link in
+      chained-as (λ n lt. ap (λ (x : List ℕ). wordAt x n) filled ∙ build-at (used l) link n lt)
+      (subst (λ (k : ℕ). Chained (λ n. wordAt links n) k lasts befores) e c)
+
+-- the equations by shares are the equations
+pub rows-told : {l : List ℕ} {R H u : ℕ} → SoundAt l R H → u ≡ used l → {c : Bool} → c ≡ allBelow u (λ n. balancedShares H l n) → c ≡ allBelow u (λ n. balancedRow H l n)
+rows-told {l} {R} {H} s e q =
+    q
+    ∙ ap (λ (k : ℕ). allBelow k (λ n. balancedShares H l n)) e
+    ∙ sym (rows-by-shares (relations-at s))
+    ∙ ap (λ (k : ℕ). allBelow k (λ n. balancedRow H l n)) (sym e)

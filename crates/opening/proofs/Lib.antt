@@ -1,0 +1,4 @@
+pub mod Chained
+pub mod Linked
+pub mod Shared
+pub mod Added

@@ -1,0 +1,26 @@
+-- `opening::row_balanced` meets its contract.
+use borrow.Author.Needs.{needs}
+use borrow.Author.Tests.{not-true, not-false}
+use Rattle.layout.proofs.SoundAt.{sized-at}
+use Rattle.opening.proofs.Added.{in-rows, row-skipped, row-told}
+use Rattle.opening.proofs.row_balanced.Statement.{statement}
+use Rattle.opening.proofs.row_balanced.Tie as tie
+
+pub row-balanced-spec : {M : Type 1} → statement M
+row-balanced-spec =
+    tie.close
+    (tie.spec
+    (λ c κs. let p = c .before .before .before .before .pre in (sized-at (p .0), in-rows (p .0) (p .1 .1 .0)))
+    (λ c.
+    let e = c .before in
+    let p = e .before .before .before .before .before .pre in
+    row-skipped (p .0) (p .1 .1 .0) (e .has-equation .ensures) (not-true _ (c .if1 .taken)))
+    (λ c κs. search needs)
+    (λ c κs. search needs)
+    (λ c. search needs)
+    (λ c.
+    let t = c .before .before .before .before in
+    let i = t .before .before in
+    let e = i .before in
+    let p = e .before .before .before .before .before .pre in
+    row-told (p .0) (p .1 .1 .0) (e .has-equation .ensures) (not-false _ (i .if1 .left)) (t .sum-row .ensures) (c .equals-hours .ensures)))
