@@ -13,8 +13,8 @@ use Rattle.words.specs.Lists.{wordAt, build, allBelow, sumBelow, zip2, noughts,
 use Rattle.words.proofs.Laws.{and-right, all-cong, all-below, sum-cong, build-length, build-at, zip-length, part-length, part-at, noughts-length, noughts-at}
 use Rattle.rules.specs.Pick.{pick}
 use Rattle.rules.specs.Numbers.{profiles, mostMegawatts, grantedPart, availablePart, displacedPart, reducedPart, NONFIRM-REDIRECT}
-use Rattle.rules.specs.Layout.{used, row, rowSize, reqtype, hourAt, hoursOf}
-use Rattle.rules.specs.Open.{grantedOf, heldOf, stands, drawsOn, inTree, treeBalances, hasEquation, hasTree, balancedRow, balancedTree}
+use Rattle.rules.specs.Layout.{used, row, rowSize, reqtype, related, hourAt, hoursOf}
+use Rattle.rules.specs.Open.{grantedOf, heldOf, stands, drawsOn, inTree, treeBalances, hasTree, balancedRow, balancedTree}
 use Rattle.rules.proofs.Rows.{row-length}
 use Rattle.rules.proofs.Seen.{hour-in}
 use Rattle.rules.proofs.SoundFacts.{SoundHours}
@@ -25,8 +25,8 @@ use Rattle.layout.proofs.SoundAt.{sized-at}
 use Rattle.layout.proofs.Lent.{row-lent, row-lent-length, hours-lent, hours-lent-length}
 use Rattle.paths.specs.Changes.{Adds, Summed}
 use Rattle.paths.proofs.Hourly.{adds-adds}
-use Rattle.opening.specs.Chains.{drawLink, rootLink, Chained, Unchained, Falling, chainSum}
-use Rattle.opening.specs.Shares.{shareOf, sharesOn, balancedShares, mostShare, mostSum, Sums}
+use Rattle.opening.specs.Chains.{drawLink, linkOf, Chained, Unchained, Falling, chainSum}
+use Rattle.opening.specs.Shares.{shareOf, sharesOn, balancedShares, isTested, ownShare, sumOf, balancedBy, mostShare, mostSum, Sums}
 use Rattle.opening.proofs.Chained.{last-falls, chained-as, chain-none, chain-next, chain-most, chain-last}
 use Rattle.opening.proofs.Linked.{relations-at, draws-linked, tree-linked}
 use Rattle.opening.proofs.Shared.{same-equality, rows-by-shares}
@@ -96,7 +96,7 @@ module _ {l : List ℕ} {R H : ℕ} (s : SoundAt l R H) where
     unfolding heldOf
     held-most = omega (arith, word-most availablePart (lit< tt), word-most displacedPart (lit< tt), word-most reducedPart (lit< tt))
 
-    pub share-most : (held : Bool) → shareOf H l held h n ≤ mostShare
+    pub share-most : (tree : Bool) → shareOf tree H l h n ≤ mostShare
     unfolding shareOf grantedOf
     share-most true = held-most
     share-most false = go (eqb (reqtype (row H l n)) NONFIRM-REDIRECT)
@@ -125,19 +125,19 @@ unfolding heldOf
 held-added H l n a d r = adds-adds (adds-adds a d) r
 
 -- ---- the walk of a chain, from reference last on, at reference m
-pub record Walking (H : ℕ) (l : List ℕ) (held : Bool) (befores sums₀ : List ℕ) (last : ℕ) (sums : List ℕ) (m : ℕ) : Type 0 where
+pub record Walking (H : ℕ) (l : List ℕ) (tree : Bool) (befores sums₀ : List ℕ) (last : ℕ) (sums : List ℕ) (m : ℕ) : Type 0 where
   pub below : m ≤ used l
   pub long : length sums ≡ H
-  pub each : (h : ℕ) → h < H → getD sums h 0 + chainSum befores (λ c. shareOf H l held h c) m ≡ getD sums₀ h 0 + chainSum befores (λ c. shareOf H l held h c) last
+  pub each : (h : ℕ) → h < H → getD sums h 0 + chainSum befores (λ c. shareOf tree H l h c) m ≡ getD sums₀ h 0 + chainSum befores (λ c. shareOf tree H l h c) last
 
-module _ {H : ℕ} {l : List ℕ} {held : Bool} {befores sums₀ : List ℕ} {last : ℕ} {sums : List ℕ} {m : ℕ} (i : Walking H l held befores sums₀ last sums m) where
-  pub walking-turn : Falling (used l) befores → m ≢ 0 → {next : List ℕ} → Adds (λ h. shareOf H l held h (m - 1)) sums next → Walking H l held befores sums₀ last next (getD befores (m - 1) 0)
+module _ {H : ℕ} {l : List ℕ} {tree : Bool} {befores sums₀ : List ℕ} {last : ℕ} {sums : List ℕ} {m : ℕ} (i : Walking H l tree befores sums₀ last sums m) where
+  pub walking-turn : Falling (used l) befores → m ≢ 0 → {next : List ℕ} → Adds (λ h. shareOf tree H l h (m - 1)) sums next → Walking H l tree befores sums₀ last next (getD befores (m - 1) 0)
   walking-turn F ne a =
       let low = F .falls (m - 1) (omega (arith, ne, i .below)) in
       record {
         below = omega (arith, low, ne, i .below);
         long = a .long ∙ i .long;
-        each = λ h lt. omega (arith, i .each h lt, a .each h (omega (arith, lt, i .long)), chain-next F (λ c. shareOf H l held h c) m ne (i .below));
+        each = λ h lt. omega (arith, i .each h lt, a .each h (omega (arith, lt, i .long)), chain-next F (λ c. shareOf tree H l h c) m ne (i .below));
       }
 
   pub walking-room : {R : ℕ} → SoundAt l R H → Falling (used l) befores → last ≤ used l → Sums H mostShare sums₀ → Sums H mostSum sums
@@ -148,78 +148,86 @@ module _ {H : ℕ} {l : List ℕ} {held : Bool} {befores sums₀ : List ℕ} {la
           arith,
           i .each h lt,
           o .most h lt,
-          chain-most F (λ c. shareOf H l held h c) mostShare (λ c clt. share-most s clt lt held) last last (omega arith) le,
+          chain-most F (λ c. shareOf tree H l h c) mostShare (λ c clt. share-most s clt lt tree) last last (omega arith) le,
           mul-le-mul-right mostShare (let few : last ≤ 1024 = omega (arith, le, few s) in few),
         );
   }
 
-  pub walking-done : m ≡ 0 → length sums₀ ≡ H → Adds (λ h. chainSum befores (λ c. shareOf H l held h c) last) sums₀ sums
+  pub walking-done : m ≡ 0 → length sums₀ ≡ H → Adds (λ h. chainSum befores (λ c. shareOf tree H l h c) last) sums₀ sums
   walking-done z long = record {
     long = i .long ∙ sym long;
     each = λ h lt.
         let hlt : h < H = omega (arith, lt, long) in
-        omega (arith, i .each h hlt, ap (chainSum befores (λ c. shareOf H l held h c)) z, chain-none befores (λ c. shareOf H l held h c));
+        omega (arith, i .each h hlt, ap (chainSum befores (λ c. shareOf tree H l h c)) z, chain-none befores (λ c. shareOf tree H l h c));
   }
 
--- ---- the sums of a row's equation, and of a tree
-module _ {l : List ℕ} {R H : ℕ} (s : SoundAt l R H) {lasts befores : List ℕ} {n : ℕ} (lt : n < used l) where
-  pub last-in : {link : ℕ → ℕ} → Chained link (used l) lasts befores → wordAt lasts (n + 1) ≤ used l
-  last-in {link} C = omega (arith, C .last (n + 1) (omega (arith, lt)), last-falls link (n + 1) (used l))
-
-  pub row-summed : Chained (λ m. drawLink H l m) (used l) lasts befores → (sums : List ℕ) {one two three : List ℕ} → length sums ≡ H → one ≡ noughts (length sums) → Adds (λ h. heldOf H l h n) one two
-      → Adds (λ h. chainSum befores (λ c. shareOf H l false h c) (wordAt lasts (n + 1))) two three → Summed H (λ h. heldOf H l h n + sharesOn H l h n) three
-  unfolding sharesOn
-  row-summed C sums long e a b =
-      let o = sums-none H sums long e in
-      record {
-        long = b .long ∙ a .long ∙ o .long;
-        each = λ h hlt.
-            omega (
-              arith,
-              o .most h hlt,
-              a .each h (omega (arith, hlt, o .long)),
-              b .each h (omega (arith, hlt, o .long, a .long)),
-              chain-last C (λ c. shareOf H l false h c) (n + 1) (omega (arith, lt)),
-              sum-cong (used l) (λ c. pick (eqb (drawLink H l c) (n + 1)) (shareOf H l false h c) 0) (λ c. pick (drawsOn H l n c) (shareOf H l false h c) 0) (λ c clt. ap (λ (x : Bool). pick x (shareOf H l false h c) 0) (sym (draws-linked H l n c))),
-            );
-      }
-
-  pub tree-summed : Chained (λ m. rootLink H l m) (used l) lasts befores → (sums : List ℕ) {one two : List ℕ} → length sums ≡ H → one ≡ noughts (length sums)
-      → Adds (λ h. chainSum befores (λ c. shareOf H l true h c) (wordAt lasts (n + 1))) one two → Summed H (λ h. sumBelow (used l) (λ m. pick (eqb (rootLink H l m) (n + 1)) (heldOf H l h m) 0)) two
-  unfolding shareOf
-  tree-summed C sums long e b =
-      let o = sums-none H sums long e in
-      record {
-        long = b .long ∙ o .long;
-        each = λ h hlt. omega (arith, o .most h hlt, b .each h (omega (arith, hlt, o .long)), chain-last C (λ c. heldOf H l h c) (n + 1) (omega (arith, lt)));
-      }
-
--- ---- and what comparing them with granted says
+-- ---- what is held against granted of row n, in a tree or in an equation
 module _ {l : List ℕ} {R H : ℕ} (s : SoundAt l R H) {n : ℕ} (lt : n < used l) where
-  pub row-told : {b c : Bool} {sums : List ℕ} → b ≡ hasEquation H l n → b ≡ true → Summed H (λ h. heldOf H l h n + sharesOn H l h n) sums → c ≡ allBelow H (λ h. eqb (wordAt sums h) (wordAt (row H l n) (hourAt H grantedPart h))) → c ≡ balancedShares H l n
-  unfolding balancedShares grantedOf
-  row-told e t o q =
+  -- at the start: nothing, or what the row holds
+  pub start-none : {tree : Bool} → tree ≡ true → (sums : List ℕ) {next : List ℕ} → length sums ≡ H → next ≡ noughts (length sums) → Summed H (λ h. ownShare tree H l h n) next
+  unfolding ownShare
+  start-none {tree} t sums long e =
+      let o = sums-none H sums long e in
+      record { long = o .long; each = λ h hlt. omega (arith, o .most h hlt, ap (λ (b : Bool). pick b 0 (heldOf H l h n)) t) }
+
+  pub start-held : {tree : Bool} → tree ≡ false → (sums : List ℕ) {one next : List ℕ} → length sums ≡ H → one ≡ noughts (length sums) → Adds (λ h. heldOf H l h n) one next → Summed H (λ h. ownShare tree H l h n) next
+  unfolding ownShare
+  start-held {tree} f sums long e a =
+      let o = sums-none H sums long e in
+      record {
+        long = a .long ∙ o .long;
+        each = λ h hlt. omega (arith, o .most h hlt, a .each h (omega (arith, hlt, o .long)), ap (λ (b : Bool). pick b 0 (heldOf H l h n)) f);
+      }
+
+  pub start-room : (tree : Bool) {sums : List ℕ} → Summed H (λ h. ownShare tree H l h n) sums → Sums H mostShare sums
+  unfolding ownShare
+  start-room tree o = record { long = o .long; most = λ h hlt. omega (arith, o .each h hlt, least tree h hlt) }
+    where
+      least : (b : Bool) (h : ℕ) → h < H → pick b 0 (heldOf H l h n) ≤ mostShare
+      least true h hlt = omega arith
+      least false h hlt = held-most s lt hlt
+
+  module _ (tree : Bool) {lasts befores : List ℕ} (C : Chained (λ m. linkOf tree H l m) (used l) lasts befores) where
+    pub last-in : wordAt lasts (n + 1) ≤ used l
+    last-in = omega (arith, C .last (n + 1) (omega (arith, lt)), last-falls (λ m. linkOf tree H l m) (n + 1) (used l))
+
+    pub rows-summed : {one two : List ℕ} → Summed H (λ h. ownShare tree H l h n) one → Adds (λ h. chainSum befores (λ c. shareOf tree H l h c) (wordAt lasts (n + 1))) one two → Summed H (λ h. sumOf tree H l h n) two
+    unfolding sumOf
+    rows-summed o a = record {
+      long = a .long ∙ o .long;
+      each = λ h hlt. omega (arith, o .each h hlt, a .each h (omega (arith, hlt, o .long)), chain-last C (λ c. shareOf tree H l h c) (n + 1) (omega (arith, lt)));
+    }
+
+  -- ---- and what comparing it with granted says
+  row-sum : (h : ℕ) → sumOf false H l h n ≡ heldOf H l h n + sharesOn H l h n
+  unfolding sumOf ownShare linkOf sharesOn
+  row-sum h =
+      ap (λ (x : ℕ). heldOf H l h n + x)
+      (sum-cong (used l) (λ c. pick (eqb (drawLink H l c) (n + 1)) (shareOf false H l h c) 0) (λ c. pick (drawsOn H l n c) (shareOf false H l h c) 0)
+      (λ c clt. ap (λ (x : Bool). pick x (shareOf false H l h c) 0) (sym (draws-linked H l n c))))
+
+  tree-sum : related (row H l n) ≡ 0 → (h : ℕ) → sumOf true H l h n ≡ sumBelow (used l) (λ m. pick (inTree H l n m) (heldOf H l h m) 0)
+  unfolding sumOf ownShare linkOf shareOf
+  tree-sum top h = omega (arith, tree-linked (relations-at s) n top (λ m. heldOf H l h m))
+
+  pub told : (tree : Bool) {b c : Bool} {sums : List ℕ} → b ≡ isTested tree H l n → b ≡ true → Summed H (λ h. sumOf tree H l h n) sums → c ≡ allBelow H (λ h. eqb (wordAt sums h) (wordAt (row H l n) (hourAt H grantedPart h))) → c ≡ balancedBy tree H l n
+  unfolding isTested balancedBy balancedShares balancedTree hasTree treeBalances grantedOf
+  told false e t o q =
       q
-      ∙ all-cong _ _ H (λ h hlt. ap (λ (x : ℕ). eqb x (wordAt (row H l n) (hourAt H grantedPart h))) (o .each h hlt))
+      ∙ all-cong _ _ H (λ h hlt. ap (λ (x : ℕ). eqb x (wordAt (row H l n) (hourAt H grantedPart h))) (o .each h hlt ∙ row-sum h))
       ∙ ap (λ (x : Bool). not x || allBelow H (λ h. eqb (heldOf H l h n + sharesOn H l h n) (wordAt (row H l n) (hourAt H grantedPart h)))) (sym t ∙ e)
-
-  pub row-skipped : {b : Bool} → b ≡ hasEquation H l n → b ≡ false → true ≡ balancedShares H l n
-  unfolding balancedShares
-  row-skipped e f = ap (λ (x : Bool). not x || allBelow H (λ h. eqb (heldOf H l h n + sharesOn H l h n) (grantedOf H l h n))) (sym f ∙ e)
-
-  pub tree-told : {b c : Bool} {sums : List ℕ} → b ≡ hasTree H l n → b ≡ true → Summed H (λ h. sumBelow (used l) (λ m. pick (eqb (rootLink H l m) (n + 1)) (heldOf H l h m) 0)) sums → c ≡ allBelow H (λ h. eqb (wordAt sums h) (wordAt (row H l n) (hourAt H grantedPart h))) → c ≡ balancedTree H l n
-  unfolding balancedTree hasTree treeBalances grantedOf
-  tree-told {b} {c} {sums} e t o q =
+  told true e t o q =
       let top = relations-at s n lt .originals (original-range _ (and-right (stands H l n) _ (sym e ∙ t)) .1) in
       q
       ∙ all-cong _ _ H (λ h hlt.
-      ap (λ (x : ℕ). eqb x (wordAt (row H l n) (hourAt H grantedPart h))) (o .each h hlt ∙ sym (tree-linked (relations-at s) n top (λ m. heldOf H l h m)))
+      ap (λ (x : ℕ). eqb x (wordAt (row H l n) (hourAt H grantedPart h))) (o .each h hlt ∙ tree-sum top h)
       ∙ same-equality (sumBelow (used l) (λ m. pick (inTree H l n m) (heldOf H l h m) 0)) (wordAt (row H l n) (hourAt H grantedPart h)) (wordAt (row H l n) (hourAt H grantedPart h)) (sumBelow (used l) (λ m. pick (inTree H l n m) (heldOf H l h m) 0)) (λ z. sym z) (λ z. sym z))
       ∙ ap (λ (x : Bool). not x || allBelow H (λ h. treeBalances H l n h)) (sym t ∙ e)
 
-  pub tree-skipped : {b : Bool} → b ≡ hasTree H l n → b ≡ false → true ≡ balancedTree H l n
-  unfolding balancedTree
-  tree-skipped e f = ap (λ (x : Bool). not x || allBelow H (λ h. treeBalances H l n h)) (sym f ∙ e)
+  pub untold : (tree : Bool) {b : Bool} → b ≡ isTested tree H l n → b ≡ false → true ≡ balancedBy tree H l n
+  unfolding isTested balancedBy balancedShares balancedTree
+  untold false e f = ap (λ (x : Bool). not x || allBelow H (λ h. eqb (heldOf H l h n + sharesOn H l h n) (grantedOf H l h n))) (sym f ∙ e)
+  untold true e f = ap (λ (x : Bool). not x || allBelow H (λ h. treeBalances H l n h)) (sym f ∙ e)
 
 -- ---- links that fill a table
 module _ {l : List ℕ} {R H : ℕ} (s : SoundAt l R H) (link : ℕ → ℕ) {links : List ℕ} (filled : links ≡ build (used l) link) where
@@ -241,10 +249,15 @@ module _ {l : List ℕ} {R H : ℕ} (s : SoundAt l R H) (link : ℕ → ℕ) {li
       chained-as (λ n lt. ap (λ (x : List ℕ). wordAt x n) filled ∙ build-at (used l) link n lt)
       (subst (λ (k : ℕ). Chained (λ n. wordAt links n) k lasts befores) e c)
 
--- the equations by shares are the equations
-pub rows-told : {l : List ℕ} {R H u : ℕ} → SoundAt l R H → u ≡ used l → {c : Bool} → c ≡ allBelow u (λ n. balancedShares H l n) → c ≡ allBelow u (λ n. balancedRow H l n)
+-- the equations by shares are the equations; the trees are the trees
+pub rows-told : {l : List ℕ} {R H u : ℕ} → SoundAt l R H → u ≡ used l → {c : Bool} → c ≡ allBelow u (λ n. balancedBy false H l n) → c ≡ allBelow u (λ n. balancedRow H l n)
+unfolding balancedBy
 rows-told {l} {R} {H} s e q =
     q
     ∙ ap (λ (k : ℕ). allBelow k (λ n. balancedShares H l n)) e
     ∙ sym (rows-by-shares (relations-at s))
     ∙ ap (λ (k : ℕ). allBelow k (λ n. balancedRow H l n)) (sym e)
+
+pub trees-told : (H : ℕ) (l : List ℕ) (u : ℕ) {c : Bool} → c ≡ allBelow u (λ n. balancedBy true H l n) → c ≡ allBelow u (λ n. balancedTree H l n)
+unfolding balancedBy
+trees-told H l u q = q

@@ -16,7 +16,7 @@ use Rattle.rules.specs.Balance.{descendsWithin, descends}
 use Rattle.rules.specs.Open.{stands, drawsOn, inTree}
 use Rattle.rules.proofs.SoundFacts.{SoundRelation}
 use Rattle.layout.specs.SoundAt.{SoundAt}
-use Rattle.opening.specs.Chains.{drawLink, rootWithin, rootLink}
+use Rattle.opening.specs.Chains.{drawLink, rootWithin, rootLink, linkOf}
 
 pub relations-at : {l : List ℕ} {R H : ℕ} → SoundAt l R H → (n : ℕ) → n < used l → SoundRelation H l n
 relations-at {l} s n lt = subst (λ (x : ℕ). SoundRelation x l n) (sym (s .hours)) (s .sound .relations n lt)
@@ -39,7 +39,7 @@ module _ {H : ℕ} {l : List ℕ} (rel : (n : ℕ) → n < used l → SoundRelat
       go (inl t) = omega (arith, rel n lt .originals (omega (arith, t)))
       go (inr t) = rel n lt .up t .1
 
-  pub draw-low : (n : ℕ) → n < used l → drawLink H l n ≤ n
+  draw-low : (n : ℕ) → n < used l → drawLink H l n ≤ n
   unfolding drawLink
   draw-low n lt = go (stands H l n)
     where
@@ -93,9 +93,14 @@ module _ {H : ℕ} {l : List ℕ} (rel : (n : ℕ) → n < used l → SoundRelat
             z,
           )
 
-  pub root-low : (n : ℕ) → n < used l → rootLink H l n ≤ n + 1
+  root-low : (n : ℕ) → n < used l → rootLink H l n ≤ n + 1
   unfolding rootLink
   root-low n lt = within-low n n lt
+
+  pub link-low : (tree : Bool) (n : ℕ) → n < used l → linkOf tree H l n ≤ n + 1
+  unfolding linkOf
+  link-low true n lt = root-low n lt
+  link-low false n lt = omega (arith, draw-low n lt)
 
   -- ---- a row is in the tree of one that is related to none exactly where that is its root
   module _ (o : ℕ) (top : related (row H l o) ≡ 0) where

@@ -1,6 +1,7 @@
 -- For contracts inside the crate: the rows that count for one row, chained from the last to the first. No promise to
 -- the outside names these.
 use mathlib.Core.Path.{_≡_}
+use mathlib.Core.Bool.{Bool}
 use mathlib.Core.List.{List}
 use Prim.Native.Nat.{ℕ, zero, suc, _+_, _-_, _≤_, _<_}
 use lib.Dec.{eqb}
@@ -22,6 +23,10 @@ rootWithin (suc k) H l n = pick (eqb (related (row H l n)) 0) (n + 1) (rootWithi
 
 unfoldable pub rootLink : ℕ → List ℕ → ℕ → ℕ
 rootLink H l n = rootWithin n H l n
+
+-- the one or the other: whether the rows of a tree are chained, or those that draw on the same row
+unfoldable pub linkOf : Bool → ℕ → List ℕ → ℕ → ℕ
+linkOf tree H l n = pick tree (rootLink H l n) (drawLink H l n)
 
 -- of the rows before m the last one with the link k, as a reference
 unfoldable pub lastLinked : (ℕ → ℕ) → ℕ → ℕ → ℕ

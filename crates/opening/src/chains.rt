@@ -6,7 +6,7 @@ ghost use Rattle.words.specs.Lists.{wordAt, build, noughts};
 ghost use Rattle.rules.specs.Layout.{Sized, used as usedRows};
 ghost use Rattle.rules.specs.Open.{stands as isStanding};
 ghost use Rattle.layout.specs.SoundAt.{SoundAt};
-ghost use Rattle.opening.specs.Chains.{drawLink, rootLink, Chained, Unchained};
+ghost use Rattle.opening.specs.Chains.{drawLink, rootLink, linkOf, Chained, Unchained};
 use layout::numbers::CONFIRMED;
 use layout::numbers::DISPLACED;
 use layout::numbers::RELATED;
@@ -84,36 +84,33 @@ fn chain(lasts: &mut [u32], befores: &mut [u32], links: &[u32])
     chain_cleared(lasts, befores, links);
 }
 
-// The rows that draw on the same row.
-pub fn chain_draws(
-    links: &mut [u32],
-    lasts: &mut [u32],
-    befores: &mut [u32],
-    l: &[u32],
-    rows: usize,
-    hours: usize,
-)
+// Links of a tree, or of what draws.
+fn link_rows(links: &mut [u32], l: &[u32], rows: usize, hours: usize, tree: bool)
     requires { ⌜ SoundAt (now l) rows hours ⌝ }
-    requires { ⌜ (length (now links) ≡ usedRows (now l)) × (length (now lasts) ≡ usedRows (now l) + 1) × (length (now befores) ≡ usedRows (now l)) ⌝ }
-    ensures { λ _. ⌜ Chained (λ n. drawLink hours (now (l .entry)) n) (usedRows (now (l .entry))) (now (lasts .exit)) (now (befores .exit)) ⌝ }
+    requires { ⌜ length (now links) ≡ usedRows (now l) ⌝ }
+    ensures { λ _. ⌜ now (links .exit) ≡ build (usedRows (now (l .entry))) (λ n. linkOf tree hours (now (l .entry)) n) ⌝ }
 {
+    if tree {
+        link_roots(links, l, rows, hours);
+        return;
+    }
     link_draws(links, l, rows, hours);
-    chain(lasts, befores, &links[..]);
 }
 
-// The rows of the same tree.
-pub fn chain_trees(
+// All used rows are linked and chained.
+pub fn chain_rows(
     links: &mut [u32],
     lasts: &mut [u32],
     befores: &mut [u32],
     l: &[u32],
     rows: usize,
     hours: usize,
+    tree: bool,
 )
     requires { ⌜ SoundAt (now l) rows hours ⌝ }
     requires { ⌜ (length (now links) ≡ usedRows (now l)) × (length (now lasts) ≡ usedRows (now l) + 1) × (length (now befores) ≡ usedRows (now l)) ⌝ }
-    ensures { λ _. ⌜ Chained (λ n. rootLink hours (now (l .entry)) n) (usedRows (now (l .entry))) (now (lasts .exit)) (now (befores .exit)) ⌝ }
+    ensures { λ _. ⌜ Chained (λ n. linkOf tree hours (now (l .entry)) n) (usedRows (now (l .entry))) (now (lasts .exit)) (now (befores .exit)) ⌝ }
 {
-    link_roots(links, l, rows, hours);
+    link_rows(links, l, rows, hours, tree);
     chain(lasts, befores, &links[..]);
 }

@@ -4,19 +4,16 @@ pub mod sums;
 
 ghost use mathlib.Core.Path.{_≡_};
 ghost use mathlib.Core.Bool.{_&&_};
-ghost use Prim.Native.Nat.{_+_, _<_};
-ghost use lib.Dec.{eqb};
+ghost use Prim.Native.Nat.{_<_};
 ghost use lib.ListN.{length};
-ghost use Rattle.words.specs.Lists.{allBelow, sumBelow};
-ghost use Rattle.rules.specs.Pick.{pick};
+ghost use Rattle.words.specs.Lists.{allBelow};
 ghost use Rattle.rules.specs.Layout.{Sized, used as usedRows};
-ghost use Rattle.rules.specs.Open.{heldOf, hasEquation, hasTree, balancedRow, balancedTree, openNumber};
+ghost use Rattle.rules.specs.Open.{hasEquation, hasTree, balancedRow, balancedTree, openNumber};
 ghost use Rattle.layout.specs.SoundAt.{SoundAt};
 ghost use Rattle.paths.specs.Changes.{Summed};
-ghost use Rattle.opening.specs.Chains.{drawLink, rootLink, Chained, Lent};
-ghost use Rattle.opening.specs.Shares.{sharesOn, balancedShares};
-use chains::chain_draws;
-use chains::chain_trees;
+ghost use Rattle.opening.specs.Chains.{linkOf, Chained, Lent};
+ghost use Rattle.opening.specs.Shares.{isTested, ownShare, sumOf, balancedBy};
+use chains::chain_rows;
 use chains::stands;
 use layout::class::is_original;
 use layout::numbers::GRANTED_PART;
@@ -59,28 +56,33 @@ fn has_tree(l: &[u32], rows: usize, hours: usize, n: usize) -> bool
     standing & original
 }
 
-// What row n holds and the shares of the rows that draw on it, by hour.
-fn sum_row(
-    sums: &mut [u32],
-    lasts: &[u32],
-    befores: &[u32],
-    l: &[u32],
-    rows: usize,
-    hours: usize,
-    n: usize,
-)
-    requires { ⌜ SoundAt (now l) rows hours ⌝ }
-    requires { ⌜ Chained (λ m. drawLink hours (now l) m) (usedRows (now l)) (now lasts) (now befores) ⌝ }
-    requires { ⌜ (n < usedRows (now l)) × (length (now sums) ≡ hours) ⌝ }
-    ensures { λ _. ⌜ Summed hours (λ h. heldOf hours (now (l .entry)) h n + sharesOn hours (now (l .entry)) h n) (now (sums .exit)) ⌝ }
+// The one, of a tree, or the other.
+fn is_tested(l: &[u32], rows: usize, hours: usize, n: usize, tree: bool) -> bool
+    requires { ⌜ Sized (now l) rows hours ⌝ }
+    requires { ⌜ n < rows ⌝ }
+    ensures { λ b. ⌜ b ≡ isTested tree hours (now (l .entry)) n ⌝ }
 {
-    words::clear(sums);
-    add_held(sums, l, rows, hours, n);
-    add_chain(sums, befores, l, rows, hours, lasts[n + 1], false);
+    if tree {
+        return has_tree(l, rows, hours, n);
+    }
+    has_equation(l, rows, hours, n)
 }
 
-// What the rows with the root n hold, by hour.
-fn sum_tree(
+// What row n holds, by hour; nothing in a tree, where it stands in the chain.
+fn start_sums(sums: &mut [u32], l: &[u32], rows: usize, hours: usize, n: usize, tree: bool)
+    requires { ⌜ SoundAt (now l) rows hours ⌝ }
+    requires { ⌜ (n < usedRows (now l)) × (length (now sums) ≡ hours) ⌝ }
+    ensures { λ _. ⌜ Summed hours (λ h. ownShare tree hours (now (l .entry)) h n) (now (sums .exit)) ⌝ }
+{
+    words::clear(sums);
+    if tree {
+        return;
+    }
+    add_held(sums, l, rows, hours, n);
+}
+
+// What is held against granted of row n, by hour.
+fn sum_rows(
     sums: &mut [u32],
     lasts: &[u32],
     befores: &[u32],
@@ -88,18 +90,18 @@ fn sum_tree(
     rows: usize,
     hours: usize,
     n: usize,
+    tree: bool,
 )
     requires { ⌜ SoundAt (now l) rows hours ⌝ }
-    requires { ⌜ Chained (λ m. rootLink hours (now l) m) (usedRows (now l)) (now lasts) (now befores) ⌝ }
+    requires { ⌜ Chained (λ m. linkOf tree hours (now l) m) (usedRows (now l)) (now lasts) (now befores) ⌝ }
     requires { ⌜ (n < usedRows (now l)) × (length (now sums) ≡ hours) ⌝ }
-    ensures { λ _. ⌜ Summed hours (λ h. sumBelow (usedRows (now (l .entry))) (λ m. pick (eqb (rootLink hours (now (l .entry)) m) (n + 1)) (heldOf hours (now (l .entry)) h m) 0)) (now (sums .exit)) ⌝ }
+    ensures { λ _. ⌜ Summed hours (λ h. sumOf tree hours (now (l .entry)) h n) (now (sums .exit)) ⌝ }
 {
-    words::clear(sums);
-    add_chain(sums, befores, l, rows, hours, lasts[n + 1], true);
+    start_sums(sums, l, rows, hours, n, tree);
+    add_chain(sums, befores, l, rows, hours, lasts[n + 1], tree);
 }
 
 // Whether what is tested of row n holds in every hour.
-
 fn row_balanced(
     sums: &mut [u32],
     lasts: &[u32],
@@ -108,42 +110,21 @@ fn row_balanced(
     rows: usize,
     hours: usize,
     n: usize,
+    tree: bool,
 ) -> bool
     requires { ⌜ SoundAt (now l) rows hours ⌝ }
-    requires { ⌜ Chained (λ m. drawLink hours (now l) m) (usedRows (now l)) (now lasts) (now befores) ⌝ }
+    requires { ⌜ Chained (λ m. linkOf tree hours (now l) m) (usedRows (now l)) (now lasts) (now befores) ⌝ }
     requires { ⌜ (n < usedRows (now l)) × (length (now sums) ≡ hours) ⌝ }
-    ensures { λ b. ⌜ b ≡ balancedShares hours (now (l .entry)) n ⌝ }
+    ensures { λ b. ⌜ b ≡ balancedBy tree hours (now (l .entry)) n ⌝ }
 {
-    if !has_equation(l, rows, hours, n) {
+    if !is_tested(l, rows, hours, n, tree) {
         return true;
     }
-    sum_row(sums, lasts, befores, l, rows, hours, n);
-    equals_hours(&sums[..], l, rows, hours, n, GRANTED_PART)
-}
-
-fn tree_balanced(
-    sums: &mut [u32],
-    lasts: &[u32],
-    befores: &[u32],
-    l: &[u32],
-    rows: usize,
-    hours: usize,
-    n: usize,
-) -> bool
-    requires { ⌜ SoundAt (now l) rows hours ⌝ }
-    requires { ⌜ Chained (λ m. rootLink hours (now l) m) (usedRows (now l)) (now lasts) (now befores) ⌝ }
-    requires { ⌜ (n < usedRows (now l)) × (length (now sums) ≡ hours) ⌝ }
-    ensures { λ b. ⌜ b ≡ balancedTree hours (now (l .entry)) n ⌝ }
-{
-    if !has_tree(l, rows, hours, n) {
-        return true;
-    }
-    sum_tree(sums, lasts, befores, l, rows, hours, n);
+    sum_rows(sums, lasts, befores, l, rows, hours, n, tree);
     equals_hours(&sums[..], l, rows, hours, n, GRANTED_PART)
 }
 
 // Of all used rows.
-
 fn rows_balanced(
     sums: &mut [u32],
     lasts: &[u32],
@@ -152,36 +133,15 @@ fn rows_balanced(
     rows: usize,
     hours: usize,
     used: usize,
+    tree: bool,
 ) -> bool
     requires { ⌜ SoundAt (now l) rows hours ⌝ }
-    requires { ⌜ Chained (λ m. drawLink hours (now l) m) (usedRows (now l)) (now lasts) (now befores) ⌝ }
+    requires { ⌜ Chained (λ m. linkOf tree hours (now l) m) (usedRows (now l)) (now lasts) (now befores) ⌝ }
     requires { ⌜ (used ≡ usedRows (now l)) × (length (now sums) ≡ hours) ⌝ }
-    ensures { λ b. ⌜ b ≡ allBelow used (λ n. balancedShares hours (now (l .entry)) n) ⌝ }
+    ensures { λ b. ⌜ b ≡ allBelow used (λ n. balancedBy tree hours (now (l .entry)) n) ⌝ }
 {
     for n in 0..used {
-        if !row_balanced(sums, lasts, befores, l, rows, hours, n) {
-            return false;
-        }
-    }
-    true
-}
-
-fn trees_balanced(
-    sums: &mut [u32],
-    lasts: &[u32],
-    befores: &[u32],
-    l: &[u32],
-    rows: usize,
-    hours: usize,
-    used: usize,
-) -> bool
-    requires { ⌜ SoundAt (now l) rows hours ⌝ }
-    requires { ⌜ Chained (λ m. rootLink hours (now l) m) (usedRows (now l)) (now lasts) (now befores) ⌝ }
-    requires { ⌜ (used ≡ usedRows (now l)) × (length (now sums) ≡ hours) ⌝ }
-    ensures { λ b. ⌜ b ≡ allBelow used (λ n. balancedTree hours (now (l .entry)) n) ⌝ }
-{
-    for n in 0..used {
-        if !tree_balanced(sums, lasts, befores, l, rows, hours, n) {
+        if !row_balanced(sums, lasts, befores, l, rows, hours, n, tree) {
             return false;
         }
     }
@@ -189,7 +149,6 @@ fn trees_balanced(
 }
 
 // The same, with the rows chained first. What is lent is written over.
-
 fn rows_hold(
     links: &mut [u32],
     lasts: &mut [u32],
@@ -199,35 +158,18 @@ fn rows_hold(
     rows: usize,
     hours: usize,
     used: usize,
+    tree: bool,
 ) -> bool
     requires { ⌜ SoundAt (now l) rows hours ⌝ }
     requires { ⌜ used ≡ usedRows (now l) ⌝ }
     requires { ⌜ Lent used hours (now links) (now lasts) (now befores) (now sums) ⌝ }
-    ensures { λ b. ⌜ b ≡ allBelow used (λ n. balancedRow hours (now (l .entry)) n) ⌝ }
+    ensures { λ b. ⌜ b ≡ allBelow used (λ n. balancedBy tree hours (now (l .entry)) n) ⌝ }
 {
-    chain_draws(links, lasts, befores, l, rows, hours);
-    rows_balanced(sums, &lasts[..], &befores[..], l, rows, hours, used)
+    chain_rows(links, lasts, befores, l, rows, hours, tree);
+    rows_balanced(sums, &lasts[..], &befores[..], l, rows, hours, used, tree)
 }
 
-fn trees_hold(
-    links: &mut [u32],
-    lasts: &mut [u32],
-    befores: &mut [u32],
-    sums: &mut [u32],
-    l: &[u32],
-    rows: usize,
-    hours: usize,
-    used: usize,
-) -> bool
-    requires { ⌜ SoundAt (now l) rows hours ⌝ }
-    requires { ⌜ used ≡ usedRows (now l) ⌝ }
-    requires { ⌜ Lent used hours (now links) (now lasts) (now befores) (now sums) ⌝ }
-    ensures { λ b. ⌜ b ≡ allBelow used (λ n. balancedTree hours (now (l .entry)) n) ⌝ }
-{
-    chain_trees(links, lasts, befores, l, rows, hours);
-    trees_balanced(sums, &lasts[..], &befores[..], l, rows, hours, used)
-}
-
+// The equations, and then the trees.
 fn all_hold(
     links: &mut [u32],
     lasts: &mut [u32],
@@ -243,10 +185,10 @@ fn all_hold(
     requires { ⌜ Lent used hours (now links) (now lasts) (now befores) (now sums) ⌝ }
     ensures { λ b. ⌜ b ≡ (allBelow used (λ n. balancedRow hours (now (l .entry)) n) && allBelow used (λ n. balancedTree hours (now (l .entry)) n)) ⌝ }
 {
-    if !rows_hold(links, lasts, befores, sums, l, rows, hours, used) {
+    if !rows_hold(links, lasts, befores, sums, l, rows, hours, used, false) {
         return false;
     }
-    trees_hold(links, lasts, befores, sums, l, rows, hours, used)
+    rows_hold(links, lasts, befores, sums, l, rows, hours, used, true)
 }
 
 fn balanced(l: &[u32], rows: usize, hours: usize, used: usize) -> bool

@@ -61,14 +61,14 @@ pub fn add_held(sums: &mut [u32], l: &[u32], rows: usize, hours: usize, n: usize
     add_hours(sums, l, rows, hours, n, REDUCED_PART);
 }
 
-// The share of row n is added.
-fn add_share(sums: &mut [u32], l: &[u32], rows: usize, hours: usize, n: usize, held: bool)
+// The share of row n is added, in a tree or in an equation.
+fn add_share(sums: &mut [u32], l: &[u32], rows: usize, hours: usize, n: usize, tree: bool)
     requires { ⌜ SoundAt (now l) rows hours ⌝ }
     requires { ⌜ n < usedRows (now l) ⌝ }
     requires { ⌜ Sums hours mostSum (now sums) ⌝ }
-    ensures { λ _. ⌜ Adds (λ h. shareOf hours (now (l .entry)) held h n) (now (sums .entry)) (now (sums .exit)) ⌝ }
+    ensures { λ _. ⌜ Adds (λ h. shareOf tree hours (now (l .entry)) h n) (now (sums .entry)) (now (sums .exit)) ⌝ }
 {
-    if held {
+    if tree {
         add_held(sums, l, rows, hours, n);
         return;
     }
@@ -87,17 +87,17 @@ pub fn add_chain(
     rows: usize,
     hours: usize,
     last: u32,
-    held: bool,
+    tree: bool,
 )
     requires { ⌜ SoundAt (now l) rows hours ⌝ }
     requires { ⌜ Falling (usedRows (now l)) (now befores) ⌝ }
     requires { ⌜ last ≤ usedRows (now l) ⌝ }
     requires { ⌜ Sums hours mostShare (now sums) ⌝ }
-    ensures { λ _. ⌜ Adds (λ h. chainSum (now (befores .entry)) (λ c. shareOf hours (now (l .entry)) held h c) last) (now (sums .entry)) (now (sums .exit)) ⌝ }
+    ensures { λ _. ⌜ Adds (λ h. chainSum (now (befores .entry)) (λ c. shareOf tree hours (now (l .entry)) h c) last) (now (sums .entry)) (now (sums .exit)) ⌝ }
 {
     let mut m = last as usize;
     while m != 0 {
-        add_share(sums, l, rows, hours, m - 1, held);
+        add_share(sums, l, rows, hours, m - 1, tree);
         m = befores[m - 1] as usize;
     }
 }

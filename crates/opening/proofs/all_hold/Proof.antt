@@ -3,6 +3,7 @@ use mathlib.Core.Path.{sym, _∙_}
 use borrow.Author.Needs.{needs}
 use borrow.Author.Tests.{not-true, not-false}
 use Rattle.rules.proofs.Picks.{and-stops, and-goes}
+use Rattle.opening.proofs.Added.{rows-told, trees-told}
 use Rattle.opening.proofs.all_hold.Statement.{statement}
 use Rattle.opening.proofs.all_hold.Tie as tie
 
@@ -15,7 +16,10 @@ all-hold-spec =
     (λ c. search needs)
     (λ c. search needs)
     (λ c. search needs)
-    (λ c. let r = c .before .before .before .before .before .before .before .before .before in and-stops _ _ (sym (r .rows-hold .ensures) ∙ not-true _ (c .if1 .taken)))
+    (λ c.
+    let r = c .before .before .before .before .before .before .before .before .before in
+    let s = r .before .before .before .before .before .before .before .before .before .before in
+    and-stops _ _ (sym (rows-told (s .pre .0) (s .pre .1 .0) (r .rows-hold .ensures)) ∙ not-true _ (c .if1 .taken)))
     (λ c κs.
     let r = c .before .before .before .before .before .before .before .before .before .before .before .before .before in
     let p = r .before .before .before .before .before .before .before .before .before .before .pre in
@@ -39,4 +43,5 @@ all-hold-spec =
     let t = c .before .before .before .before .before .before .before .before in
     let i = t .before .before .before .before .before in
     let r = i .before .before .before .before .before .before .before .before .before in
-    and-goes _ _ _ (sym (r .rows-hold .ensures) ∙ not-false _ (i .if1 .left)) (t .trees-hold .ensures)))
+    let s = r .before .before .before .before .before .before .before .before .before .before in
+    and-goes _ _ _ (sym (rows-told (s .pre .0) (s .pre .1 .0) (r .rows-hold .ensures)) ∙ not-false _ (i .if1 .left)) (trees-told (s .args .hours) (s .args .l .now) (s .args .used) (t .rows-hold2 .ensures))))

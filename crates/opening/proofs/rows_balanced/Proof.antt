@@ -5,19 +5,19 @@ use native.Mathlib.Omega.{arith}
 use lib.ListN.{length}
 use borrow.Author.Tests.{not-true, not-false}
 use Rattle.words.proofs.Laws.{Passing, passing-start, passing-turn, passing-done, passing-fails}
-use Rattle.opening.specs.Shares.{balancedShares}
+use Rattle.opening.specs.Shares.{balancedBy}
 use Rattle.opening.proofs.rows_balanced.Statement.{statement}
 use Rattle.opening.proofs.rows_balanced.Tie as tie
 
 abbrev Inv-loop : tie.InvT-loop
-Inv-loop sums₀ lasts befores l rows hours used n₀ sums n = Passing used (λ k. balancedShares hours l k) used n × (length sums ≡ hours)
+Inv-loop sums₀ lasts befores l rows hours used tree n₀ sums n = Passing used (λ k. balancedBy tree hours l k) used n × (length sums ≡ hours)
 
 pub rows-balanced-spec : {M : Type 1} → statement M
 rows-balanced-spec =
     tie.close
     (tie.spec
     Inv-loop
-    (λ sums₀ lasts befores l rows hours used n₀ sums n. used - n)
+    (λ sums₀ lasts befores l rows hours used tree n₀ sums n. used - n)
     (λ c. let s = c .before .before .before .before in (passing-start _ _, s .pre .1 .1 .1))
     (λ c κs.
     let i = c .before .before in

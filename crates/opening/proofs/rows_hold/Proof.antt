@@ -1,6 +1,5 @@
 -- `opening::rows_hold` meets its contract.
 use borrow.Author.Needs.{needs}
-use Rattle.opening.proofs.Added.{rows-told}
 use Rattle.opening.proofs.rows_hold.Statement.{statement}
 use Rattle.opening.proofs.rows_hold.Tie as tie
 
@@ -9,13 +8,12 @@ rows-hold-spec =
     tie.close
     (tie.spec
     (λ c κs. search needs)
-    (λ c κs. search needs)
+    (λ c κs.
+    let k = c .before .before .before .before .before .before .before .before .before in
+    let p = k .before .before .before .before .before .before .before .before .before .pre in
+    (p .0, (k .chain-rows .ensures, (p .1 .0, p .1 .1 .sums-long))))
     (λ c. search needs)
     (λ c. search needs)
     (λ c. search needs)
     (λ c. search needs)
-    (λ c.
-    let r = c .before .before in
-    let k = r .before .before .before .before .before .before .before .before .before .before in
-    let s = k .before .before .before .before .before .before .before .before .before in
-    rows-told (s .pre .0) (s .pre .1 .0) (r .rows-balanced .ensures)))
+    (λ c. search needs))

@@ -9,10 +9,10 @@ use Rattle.opening.proofs.sums.add_chain.Statement.{statement}
 use Rattle.opening.proofs.sums.add_chain.Tie as tie
 
 abbrev Inv-loop : tie.InvT-loop
-Inv-loop sums₀ befores l rows hours last held m₀ sums m = Walking hours l held befores sums₀ last sums m
+Inv-loop sums₀ befores l rows hours last tree m₀ sums m = Walking hours l tree befores sums₀ last sums m
 
 abbrev μ-loop : tie.MeasureT-loop
-μ-loop sums₀ befores l rows hours last held m₀ sums m = m
+μ-loop sums₀ befores l rows hours last tree m₀ sums m = m
 
 abbrev S : tie.At-loop Inv-loop μ-loop → tie.Start Inv-loop μ-loop
 S i = i .before .before .before .before
