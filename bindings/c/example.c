@@ -1,7 +1,8 @@
 /*
  * Document 01's day at the desk on two posted paths, through the library: prints
  * its 14 lines, and exits with status 1 where a line or a word left behind differs,
- * or the ledger left behind does not open.
+ * or the ledger left behind does not open. Then its resale is contested, on another
+ * ledger and without a line.
  *
  *   cc -std=c11 -o example example.c -L<archive> -lluddrisa
  */
@@ -73,6 +74,55 @@ static uint32_t batch(uint32_t *ledger, uint32_t *postings, const struct luddris
                           sizeof profiles / sizeof profiles[0], actions, count, answers, count);
 }
 
+/* What a contest answers for the day's resale, which entity 10 sells and which is
+ * two of the four hours; the challenger can go to 4 hours and its holder to 3. */
+static struct luddrisa_answer contest(uint32_t *ledger, const uint32_t *postings,
+                                      const uint32_t *moves, size_t moves_len,
+                                      const uint32_t *replies, size_t replies_len)
+{
+    return luddrisa_contest(ledger, LEDGER_WORDS, postings, POSTING_WORDS, 10, 2, 4, 3, moves,
+                            moves_len, replies, replies_len);
+}
+
+static int differs(struct luddrisa_answer answer, struct luddrisa_answer from)
+{
+    return memcmp(&answer, &from, sizeof answer) != 0;
+}
+
+/* The day up to the resale, and then a contest for it: how many answers and words
+ * differ from what they should be. */
+static int contests(void)
+{
+    static const uint32_t moves[] = {3, 4, 0};
+    static const uint32_t replies[] = {1, 0};
+    static const uint32_t again[] = {3, 3};
+    static const uint32_t displaced[HOURS] = {0, 40, 60, 0};
+    const struct luddrisa_answer kept = {0, 2, 13, 13, 0};
+    const struct luddrisa_answer lost = {0, 2, 13, 15, 100};
+    const struct luddrisa_answer refused = {25, 0, 0, 0, 0};
+    uint32_t ledger[LEDGER_WORDS];
+    uint32_t before[LEDGER_WORDS];
+    uint32_t postings[POSTING_WORDS] = {0};
+    struct luddrisa_answer answers[ACTIONS];
+    int differences = 0;
+
+    if (luddrisa_create(ledger, LEDGER_WORDS, ROWS, HOURS, 1, 3600, 0) != 0 ||
+        batch(ledger, postings, posts, POSTS, answers) != 0 ||
+        batch(ledger, postings, list, 5, answers) != 0) {
+        return 1;
+    }
+    memcpy(before, ledger, sizeof before);
+    /* Three hours are matched, and the challenger names no more, or the same again. */
+    differences += differs(contest(ledger, postings, moves, 1, replies, 1), kept);
+    differences += differs(contest(ledger, postings, again, 2, replies, 2), refused);
+    differences += memcmp(ledger, before, sizeof before) != 0;
+    /* Four are not, and the third move is not looked at. */
+    differences += differs(contest(ledger, postings, moves, 3, replies, 2), lost);
+    differences += memcmp(profile(ledger, 2, 3), displaced, sizeof displaced) != 0;
+    differences += luddrisa_open(ledger, LEDGER_WORDS) != 0;
+    return differences;
+}
+
 int main(void)
 {
     static const uint32_t displaced[HOURS] = {100, 100, 60, 70};
@@ -119,5 +169,6 @@ int main(void)
         fprintf(stderr, "the ledger does not open: %lu\n", (unsigned long)opening);
         return 1;
     }
+    differences += contests();
     return differences != 0;
 }

@@ -26,7 +26,7 @@
  * 100,000. They are 64 * hours words, path by path; that of path p in hour h is
  * postings[(p - 1) * hours + h]. When the ledger is created the caller sets them
  * to 0. While they are 0 nothing can be confirmed: the provider posts by action
- * 8, and no other action changes them.
+ * 8, and no other action and no contest changes them.
  *
  * Use of a path in an hour is the available of its CONFIRMED rows, and of the
  * CONFIRMED non-firm redirects that left it for another path, while their related
@@ -64,33 +64,49 @@
  * reduced, hour by hour. Nothing else writes reduced: there stands what was cut
  * from the row in all, also once it is displaced. A charge does not look at it.
  *
- * BALANCE   Whatever list of actions a fresh ledger is given, every hour of what
- * it leaves balances, and it opens. An action does not test the balance, so a
- * ledger that was stored is to be opened when it is taken up again, before it is
- * handed to any other call.
+ * CONTESTS   The holder of a firm row has the first refusal: a challenger that
+ * asks for a longer term gets the row displaced only if the holder does not match
+ * it. The row's seller runs the contest, from two lists of words. A move of the
+ * challenger's is a term in hours, or 0, which stops. A reply of the holder's is
+ * 0, which yields, or any other word, which matches the term named, whatever the
+ * word is. Both have a greatest term. Every term must outlast the one before, the
+ * first one the row itself (stop - start). Where the challenger stops the row is
+ * kept, where the holder yields it is lost, and where a list runs out the contest
+ * is left unfinished. A match does not lengthen the row. Words change where the
+ * row is lost, and then as by its displacement. A contest is no kind of action.
+ *
+ * BALANCE   Whatever list of actions and contests a fresh ledger is given, every
+ * hour of what it leaves balances, and it opens. No action or contest tests the
+ * balance, so a ledger that was stored is to be opened when it is taken up again,
+ * before it is handed to any other call.
  *
  * ANSWERS   Accepted: 0, the reference, the status before (0 for a submission)
- * and after, and the MW-hours moved; the clock and a posting give five zeros.
- * Refused: the number and four zeros, and no word of the ledger or of the
- * postings changes.
+ * and after, and the MW-hours moved; the clock and a posting give five zeros. A
+ * lost contest has its displacement's answer, 13 and then 15; one that was kept
+ * or left unfinished has 13, 13 and 0. Refused: the number and four zeros, and no
+ * word of the ledger or of the postings changes.
  *
  *    1 ledger unsound or not to be created so, postings not 64 * hours words or
  *      one of them over 100,000, or, judged last, an available, displaced or
  *      reduced word would pass 100,000
- *    2 unknown kind, type or status         11 the row can't move so
- *    3 no entity, or not the right party    12 price too high, or price or
- *    4 no such reference                       capacity do not agree
- *    5 time below now or past 2099          13 transfer not approved
- *    6 not a span of the ledger             14 available short in an hour
- *    7 profile does not fit                 15 available differs from granted
- *    8 all rows used                        16 limit not reached
- *    9 related row does not fit             17 fewer answers than actions
- *   10 flags                                18 not a stamp   19 stamp not written
+ *    2 unknown kind, type or status         11 the row can't move so, or is
+ *    3 no entity, or not the right party       contested but not firm
+ *    4 no such reference                    12 price too high, or price or
+ *    5 time below now or past 2099             capacity do not agree
+ *    6 not a span of the ledger             13 transfer not approved
+ *    7 profile does not fit                 14 available short in an hour
+ *    8 all rows used                        15 available differs from granted
+ *    9 related row does not fit             16 limit not reached
+ *   10 flags                                17 fewer answers than actions
+ *   18 not a stamp                          19 stamp not written
  *   20 some hour does not balance (opening alone)
  *   21 path not 1 to 64, or a resale, transfer or relinquishment not on its
  *      related row's path
  *   22 use of the row's path, of its related row's or of the posted path would
  *      exceed the posting in an hour
+ *   25 contests alone: a greatest term is not 1 to `hours`, or the holder's is
+ *      shorter than its row; a term or a match goes beyond what its party can, or
+ *      a term does not outlast the one before
  *
  * POINTERS   No pointer may be NULL, also where its length is 0. Each must be
  * aligned for its type and good for its length during the call. What a call
@@ -172,6 +188,25 @@ uint32_t luddrisa_batch(uint32_t *ledger, size_t ledger_len, uint32_t *postings,
                         size_t postings_len, const uint32_t *words, size_t words_len,
                         const struct luddrisa_action *actions, size_t actions_len,
                         struct luddrisa_answer *answers, size_t answers_len);
+
+/*
+ * Runs a contest for the row of a reference. challenger and holder are their
+ * greatest terms in hours and no entities; moves are the challenger's, replies
+ * the holder's, read in turn: a term, its answer, the next term. Words behind the
+ * end of the contest are not read. Only the ledger is written, and only where the
+ * row is lost: `after` is then 15, and 13 where it is kept or unfinished.
+ *
+ * Refused as a displacement (action 2, status 15) by the same actor: 1, 3, 4, 3,
+ * 11. Then 11 where the row is not firm; 25 for the greatest terms; 25 for the
+ * first term or match that does not fit, whatever was matched before, and for a
+ * term also where nobody answers it; and at the very end, for a lost row alone, 1
+ * where a displaced word would pass 100,000.
+ */
+struct luddrisa_answer luddrisa_contest(uint32_t *ledger, size_t ledger_len,
+                                        const uint32_t *postings, size_t postings_len,
+                                        uint32_t actor, uint32_t reference, uint32_t challenger,
+                                        uint32_t holder, const uint32_t *moves, size_t moves_len,
+                                        const uint32_t *replies, size_t replies_len);
 
 /*
  * The charge of a CONFIRMED row: MW-hours granted * bid / 24, to the cent, a

@@ -12,7 +12,7 @@ use std::cell::RefCell;
 use std::hint::black_box;
 use std::time::Instant;
 
-use luddrisa::{calls, Action, Answer, Flags, ProfileAt, Profiles, RequestType, Status};
+use luddrisa::{calls, Action, Answer, Contest, Flags, ProfileAt, Profiles, RequestType, Status};
 use luddrisa_model as model;
 use luddrisa_tests::converted::action_to_model;
 
@@ -147,12 +147,19 @@ fn level_profiles<const N: usize>(levels: [u32; N], hours: u32) -> (Vec<u32>, [P
 
 /// A ledger whose rows are all confirmed originals over all hours, 16 to a path.
 fn full_ledger(rows: u32, hours: u32) -> Desk {
+    ledger_with_first(hours, rows, hours)
+}
+
+/// The same, but so many hours for the first row.
+fn ledger_with_first(first: u32, rows: u32, hours: u32) -> Desk {
     let (words, [carries, original]) = level_profiles([100_000, 6_000], hours);
     let mut actions: Vec<_> =
         (1..=64).map(|path| Action::post(PROVIDER, path).span(0, hours).profile(carries)).collect();
     for reference in 1..=rows {
         let path = (reference - 1) % 64 + 1;
-        actions.push(preconfirmed(RequestType::ORIGINAL_FIRM, path, original));
+        let length = if reference == 1 { first } else { hours };
+        let profile = ProfileAt { length, ..original };
+        actions.push(preconfirmed(RequestType::ORIGINAL_FIRM, path, profile));
         actions.push(accepted(reference));
     }
     let mut desk = Desk::fresh(rows, hours);
@@ -330,6 +337,42 @@ fn confirmations() {
     }
 }
 
+/// (i) A contest for a row of one hour against the model: every longer term is named, and
+/// all but the last are matched, which loses the row.
+fn lost_contest() {
+    let start = ledger_with_first(1, 1_024, 744);
+    let (actor, reference, challenger, holder) = (PROVIDER, 1, 744, 743);
+    let contest = Contest { actor, reference, challenger, holder };
+    let for_model = model::Contest { actor, reference, challenger, holder };
+    let moves: Vec<u32> = (2..=744).collect();
+    let replies: Vec<u32> = moves.iter().map(|&term| u32::from(term < 744)).collect();
+    let lost = Answer { number: 0, reference, before: 13, after: 15, moved: 6_000 };
+    let mut desk = start.clone();
+    let mut copy = start.clone();
+    let mut rounds = Rounds::default();
+    for _ in 0..31 {
+        // The row is put back outside the time.
+        desk.copy_from(&start);
+        copy.copy_from(&start);
+        rounds.add(
+            || {
+                let Desk { ledger, postings } = &mut desk;
+                seconds(|| {
+                    assert_eq!(calls::contest(ledger, postings, &contest, &moves, &replies), lost);
+                })
+            },
+            || {
+                let Desk { ledger, postings } = &mut copy;
+                seconds(|| {
+                    let answer = model::contest(ledger, postings, &for_model, &moves, &replies);
+                    assert_eq!(answer.after, lost.after);
+                })
+            },
+        );
+    }
+    line("(i) a contest lost at its 743rd term, R 1,024, H 744", &rounds, 1.0, "the model", 1.2);
+}
+
 /// (e) Time per action as H doubles and as rows double.
 fn growth() {
     println!("\n| (e) rows | hours | one by itself | growth | per action of 1,000 | growth |");
@@ -414,6 +457,7 @@ fn main() {
     mixed_actions();
     confirmations();
     opening::openings();
+    lost_contest();
     growth();
     opening::growth();
     stamps();

@@ -62,7 +62,7 @@ pub fn batch(
     0
 }
 
-fn both_sound(ledger: &[u32], postings: &[u32]) -> bool {
+pub(crate) fn both_sound(ledger: &[u32], postings: &[u32]) -> bool {
     sound(ledger) && postings_fit(postings, ledger[HOURS])
 }
 
@@ -87,14 +87,14 @@ fn answer(ledger: &mut [u32], postings: &mut [u32], words: &[u32], action: &Acti
     outcome.unwrap_or_else(Answer::refused)
 }
 
-type Outcome = Result<Answer, u32>;
+pub(crate) type Outcome = Result<Answer, u32>;
 
-fn accepted(reference: u32, before: u32, after: u32, moved: u32) -> Outcome {
+pub(crate) fn accepted(reference: u32, before: u32, after: u32, moved: u32) -> Outcome {
     Ok(Answer { number: 0, reference, before, after, moved })
 }
 
 /// The number where it applies.
-fn refuse_if(applies: bool, number: u32) -> Result<(), u32> {
+pub(crate) fn refuse_if(applies: bool, number: u32) -> Result<(), u32> {
     if applies {
         Err(number)
     } else {
@@ -102,7 +102,7 @@ fn refuse_if(applies: bool, number: u32) -> Result<(), u32> {
     }
 }
 
-fn find(ledger: &[u32], reference: u32) -> Result<Row, u32> {
+pub(crate) fn find(ledger: &[u32], reference: u32) -> Result<Row, u32> {
     refuse_if(reference == 0 || reference > ledger[USED], NO_REFERENCE)?;
     Ok(Row::of(ledger, reference))
 }
@@ -135,7 +135,7 @@ fn profile_if_any<'a>(
     profile(words, action, hours).map(Some)
 }
 
-fn span_hours(ledger: &[u32], row: Row) -> u32 {
+pub(crate) fn span_hours(ledger: &[u32], row: Row) -> u32 {
     row.get(ledger, STOP) - row.get(ledger, START)
 }
 
@@ -149,7 +149,7 @@ fn is_transfer(reqtype: u32) -> bool {
 
 /// The class of a row: types 1 and 4 are firm, types 3, 6 and 7 are what their
 /// related row is.
-fn is_firm(ledger: &[u32], reference: u32) -> bool {
+pub(crate) fn is_firm(ledger: &[u32], reference: u32) -> bool {
     let row = Row::of(ledger, reference);
     match row.get(ledger, TYPE) {
         ORIGINAL_FIRM | REDIRECT_FIRM => true,
@@ -242,7 +242,7 @@ fn seller_status(ledger: &mut [u32], postings: &[u32], words: &[u32], action: &A
     }
 }
 
-fn seller_may_move(ledger: &[u32], row: Row, to: u32) -> bool {
+pub(crate) fn seller_may_move(ledger: &[u32], row: Row, to: u32) -> bool {
     let from = row.get(ledger, STATUS);
     let flags = row.get(ledger, FLAGS);
     let coordinated = flags & COORDINATED != 0;
@@ -319,7 +319,7 @@ fn offer(
     accepted(action.reference, before, status, 0)
 }
 
-fn displace(ledger: &mut [u32], reference: u32, row: Row) -> Outcome {
+pub(crate) fn displace(ledger: &mut [u32], reference: u32, row: Row) -> Outcome {
     let available = row.span(ledger, AVAILABLE);
     let displaced = row.span(ledger, DISPLACED_MW);
     refuse_if(sum_passes(&ledger[displaced.clone()], &ledger[available.clone()]), BAD_LEDGER)?;

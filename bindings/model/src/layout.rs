@@ -125,6 +125,7 @@ pub const STAMP_RANGE: u32 = 19;
 pub const UNBALANCED: u32 = 20;
 pub const BAD_PATH: u32 = 21;
 pub const OVER_POSTING: u32 = 22;
+pub const TERM_RANGE: u32 = 25;
 
 pub fn is_entity(number: u32) -> bool {
     (1..=MAX_ENTITY).contains(&number)

@@ -1,10 +1,11 @@
 //! The tally of resold, redirected, transferred, relinquished and reduced
-//! megawatts, and the balance that demand 3 claims after a list of actions.
+//! megawatts, and the balance that demand 3 claims after a list of actions and
+//! contests.
 
 use std::collections::BTreeMap;
 
 use crate::layout::*;
-use crate::{Action, Answer};
+use crate::{Action, Answer, Contest};
 
 /// What the tally keeps under one reference. The five are signed.
 #[derive(Clone, Debug, PartialEq, Eq)]
@@ -22,7 +23,7 @@ pub struct Entry {
     pub reduced: Vec<i64>,
 }
 
-/// The tally of a list of actions, empty at first.
+/// The tally of a list of actions and contests, empty at first.
 #[derive(Clone, Debug)]
 pub struct Tally {
     hours: usize,
@@ -104,6 +105,14 @@ impl Tally {
         }
         if answer.before == CONFIRMED && answer.after == ANNULLED {
             self.move_granted(answer.reference, -1);
+        }
+    }
+
+    /// Feeds a contest with its answer: one that was lost as the displacement that it
+    /// came to, any other not at all.
+    pub fn feed_contest(&mut self, contest: &Contest, answer: &Answer) {
+        if answer.number == 0 && answer.after == DISPLACED {
+            self.feed(&[], &contest.displacement(), answer);
         }
     }
 

@@ -1,4 +1,4 @@
-//! The day at the desk, and each refusal once.
+//! The day at the desk, each refusal once, and contests.
 
 use super::*;
 
@@ -81,6 +81,44 @@ impl Desk {
         reference
     }
 
+    /// A confirmed original of customer 10 in some hours, 100 MW in each.
+    fn part_day(&mut self, reqtype: u32, start: u32, stop: u32) -> u32 {
+        let profile = vec![100; (stop - start) as usize];
+        let submitted = submission(10, reqtype, 1, 0, start, stop, 1, 0);
+        let reference = self.ok(submitted, &profile).reference;
+        self.ok(seller(1, reference, ACCEPTED, 0), &[]);
+        reference
+    }
+
+    /// A contest; only one that is lost changes a word.
+    fn contest(&mut self, contest: Contest, moves: &[u32], replies: &[u32]) -> Answer {
+        let before = self.ledger.clone();
+        let answer = crate::contest(&mut self.ledger, &self.postings, &contest, moves, replies);
+        assert_eq!(sound(&self.ledger), sound(&before));
+        let lost = answer.number == 0 && answer.after == DISPLACED;
+        assert_eq!(self.ledger != before, lost);
+        match answer.number {
+            0 if lost => assert_eq!((answer.reference, answer.before), (contest.reference, 13)),
+            0 => assert_eq!(answer, stands(contest.reference)),
+            number => assert_eq!(answer, Answer::refused(number)),
+        }
+        self.tally.feed_contest(&contest, &answer);
+        answer
+    }
+
+    /// How a contest by the provider ends, on a copy.
+    fn ending(&self, terms: (u32, u32), moves: &[u32], replies: &[u32]) -> Ended {
+        let (challenger, holder) = terms;
+        let contest = Contest { actor: 1, reference: 1, challenger, holder };
+        let mut ledger = self.ledger.clone();
+        let answer = crate::contest(&mut ledger, &self.postings, &contest, moves, replies);
+        match answer {
+            Answer { number: 0, before: 13, after: 15, .. } => Ended::Lost,
+            Answer { number: 0, before: 13, after: 13, .. } => Ended::Stands,
+            Answer { number, .. } => Ended::Refused(number),
+        }
+    }
+
     fn field(&self, reference: u32, field: usize) -> u32 {
         Row::of(&self.ledger, reference).get(&self.ledger, field)
     }
@@ -88,6 +126,20 @@ impl Desk {
     fn profile(&self, reference: u32, profile: usize) -> &[u32] {
         &self.ledger[Row::of(&self.ledger, reference).profile(profile)]
     }
+}
+
+/// What the answer to a contest tells.
+#[derive(Clone, Copy, Debug, PartialEq, Eq)]
+enum Ended {
+    Lost,
+    /// Kept, or left unfinished.
+    Stands,
+    Refused(u32),
+}
+
+/// The answer where the row stays with its holder.
+fn stands(reference: u32) -> Answer {
+    Answer { number: 0, reference, before: CONFIRMED, after: CONFIRMED, moved: 0 }
 }
 
 #[allow(clippy::too_many_arguments)]
@@ -1014,4 +1066,327 @@ fn paths_of_foreign_rows() {
         Row::of(&desk.ledger, one).set(&mut desk.ledger, PATH, path);
         assert!(!sound(&desk.ledger));
     }
+}
+
+// First refusal. The row contested is in hours 1 and 2 of six, so its own term is 2.
+
+/// A contest by the provider for reference 1, with terms to spare on both sides.
+const GOOD: Contest = Contest { actor: 1, reference: 1, challenger: 6, holder: 5 };
+
+#[test]
+fn a_lost_contest_is_a_displacement() {
+    let mut desk = Desk::new(4, 6);
+    let one = desk.part_day(ORIGINAL_FIRM, 1, 3);
+    desk.derived(RESALE, one, 1, &[30, 0]);
+    desk.ok(on(REDUCE, 1, one), &[0, 5]);
+    let postings = desk.postings.clone();
+    let mut displaced = desk.ledger.clone();
+    let act = act(&mut displaced, &mut desk.postings, &[], &seller(1, one, DISPLACED, 0));
+    let lost = desk.contest(GOOD, &[3], &[0]);
+    assert_eq!(lost, Answer { number: 0, reference: one, before: 13, after: 15, moved: 165 });
+    assert_eq!((lost, &desk.ledger, &desk.postings), (act, &displaced, &postings));
+    assert_eq!(desk.field(one, STATUS), DISPLACED);
+    assert_eq!(desk.profile(one, AVAILABLE), [0; 6]);
+    assert_eq!(desk.profile(one, DISPLACED_MW), [0, 70, 95, 0, 0, 0]);
+    assert_eq!(desk.profile(one, REDUCED_MW), [0, 0, 5, 0, 0, 0]);
+    assert_eq!(GOOD.displacement(), seller(1, one, DISPLACED, 0));
+    // Once only.
+    assert_eq!(desk.contest(GOOD, &[3], &[0]).number, BAD_MOVE);
+    assert_eq!(balanced(&desk.ledger, &desk.tally), Ok(()));
+    assert_eq!(open(&desk.ledger), 0);
+}
+
+/// The greatest terms of challenger and holder, moves, replies, and how it ends.
+type Played<'a> = ((u32, u32), &'a [u32], &'a [u32], Ended);
+
+#[test]
+fn the_moves_of_a_contest() {
+    use Ended::*;
+    let mut desk = Desk::new(1, 6);
+    desk.part_day(ORIGINAL_FIRM, 1, 3);
+    const OUT: Ended = Refused(TERM_RANGE);
+    let cases: [Played; 46] = [
+        // Nobody moves, or one of them only.
+        ((6, 5), &[], &[], Stands),
+        ((6, 5), &[], &[0], Stands),
+        ((6, 5), &[3], &[], Stands),
+        ((6, 5), &[3, 4], &[1], Stands),
+        ((6, 5), &[3, 4], &[1, 1], Stands),
+        ((6, 5), &[3, 4, 5], &[1, 1], Stands),
+        // The challenger stops, at once or later.
+        ((6, 5), &[0], &[], Stands),
+        ((6, 5), &[0], &[0], Stands),
+        ((6, 5), &[3, 0], &[1], Stands),
+        ((6, 5), &[3, 0], &[1, 0], Stands),
+        ((6, 5), &[3, 4, 0], &[1, 1], Stands),
+        // The holder yields, at once or later.
+        ((6, 5), &[3], &[0], Lost),
+        ((6, 5), &[6], &[0], Lost),
+        ((6, 5), &[3, 4], &[1, 0], Lost),
+        ((6, 5), &[3, 6], &[1, 0], Lost),
+        ((6, 5), &[3, 4, 5, 6], &[1, 1, 1, 0], Lost),
+        // The first term is longer than the row's own hours.
+        ((6, 5), &[1], &[0], OUT),
+        ((6, 5), &[2], &[0], OUT),
+        ((6, 5), &[2], &[1], OUT),
+        // Every further one is longer than the last.
+        ((6, 5), &[3, 3], &[1, 0], OUT),
+        ((6, 5), &[4, 3], &[1, 0], OUT),
+        ((6, 5), &[5, 3], &[1, 0], OUT),
+        ((6, 5), &[3, 4, 4], &[1, 1, 0], OUT),
+        // None is above the challenger's greatest, which may be all hours.
+        ((4, 5), &[4], &[0], Lost),
+        ((4, 5), &[5], &[0], OUT),
+        ((4, 5), &[3, 5], &[1, 0], OUT),
+        ((6, 6), &[6], &[0], Lost),
+        ((6, 6), &[7], &[0], OUT),
+        ((6, 6), &[u32::MAX], &[0], OUT),
+        // No match is above the holder's.
+        ((6, 5), &[5], &[1], Stands),
+        ((6, 5), &[6], &[1], OUT),
+        ((6, 5), &[3, 6], &[1, 1], OUT),
+        ((6, 2), &[3], &[1], OUT),
+        ((6, 2), &[3], &[0], Lost),
+        ((6, 6), &[6, 0], &[1], Stands),
+        // A term is judged though nobody answers it, a match is not there to be judged.
+        ((6, 5), &[2], &[], OUT),
+        ((6, 5), &[3, 3], &[1], OUT),
+        ((4, 5), &[5], &[], OUT),
+        ((6, 5), &[6], &[], Stands),
+        // A match is any word but 0, and stands for the term it answers.
+        ((6, 5), &[3, 4], &[2, u32::MAX], Stands),
+        ((6, 5), &[3, 4], &[6, 0], Lost),
+        ((6, 5), &[5, 4], &[3, 0], OUT),
+        // Nothing behind the end is read.
+        ((6, 5), &[0, 7, 1], &[0, 1], Stands),
+        ((6, 5), &[3, 1, 7], &[0, 1, 0], Lost),
+        ((6, 5), &[3, 1, 7], &[], Stands),
+        ((6, 5), &[3], &[1, 0, 0], Stands),
+    ];
+    for (terms, moves, replies, expected) in cases {
+        let ended = desk.ending(terms, moves, replies);
+        assert_eq!(ended, expected, "{terms:?} {moves:?} {replies:?}");
+    }
+}
+
+#[test]
+fn greatest_terms_of_a_contest() {
+    let mut desk = Desk::new(1, 6);
+    desk.part_day(ORIGINAL_FIRM, 1, 3);
+    let terms = [0, 1, 2, 3, 5, 6, 7, 744, u32::MAX];
+    for challenger in terms {
+        for holder in terms {
+            // Nothing is named, so that these alone are judged.
+            let fit = (1..=6).contains(&challenger) && (2..=6).contains(&holder);
+            let expected = if fit { Ended::Stands } else { Ended::Refused(TERM_RANGE) };
+            for replies in [&[][..], &[0]] {
+                let ended = desk.ending((challenger, holder), &[], replies);
+                assert_eq!(ended, expected, "{challenger} {holder}");
+                let ended = desk.ending((challenger, holder), &[0], replies);
+                assert_eq!(ended, expected, "{challenger} {holder}");
+            }
+        }
+    }
+    // A challenger whose greatest is no longer than the row may run it and stop.
+    assert_eq!(desk.ending((1, 2), &[0], &[]), Ended::Stands);
+    assert_eq!(desk.ending((2, 2), &[2], &[0]), Ended::Refused(TERM_RANGE));
+}
+
+#[test]
+fn a_row_over_all_hours_is_never_lost() {
+    let mut desk = Desk::new(1, 3);
+    desk.original(ORIGINAL_FIRM, 100);
+    for term in [1, 2, 3, 4, u32::MAX] {
+        assert_eq!(desk.ending((3, 3), &[term], &[0]), Ended::Refused(TERM_RANGE));
+        assert_eq!(desk.ending((4, 3), &[term], &[0]), Ended::Refused(TERM_RANGE));
+    }
+    assert_eq!(desk.ending((3, 3), &[0], &[]), Ended::Stands);
+    assert_eq!(desk.ending((3, 2), &[0], &[]), Ended::Refused(TERM_RANGE));
+}
+
+#[test]
+fn a_contest_is_refused_in_the_order_of_a_displacement() {
+    let mut desk = Desk::new(4, 6);
+    let one = desk.part_day(ORIGINAL_FIRM, 1, 3);
+    let queued = desk.ok(submission(10, ORIGINAL_FIRM, 1, 0, 1, 3, 0, 0), &[1, 1]).reference;
+    let two = desk.part_day(ORIGINAL_NON_FIRM, 1, 3);
+    // Whatever the terms and the moves are.
+    let wrong = Contest { challenger: 0, holder: u32::MAX, ..GOOD };
+    for terms in [GOOD, wrong] {
+        for (contest, number) in [
+            (Contest { actor: 0, ..terms }, BAD_PARTY),
+            (Contest { actor: 65_536, reference: 99, ..terms }, BAD_PARTY),
+            (Contest { reference: 0, ..terms }, NO_REFERENCE),
+            (Contest { actor: 10, reference: 4, ..terms }, NO_REFERENCE),
+            (Contest { reference: u32::MAX, ..terms }, NO_REFERENCE),
+            (Contest { actor: 10, ..terms }, BAD_PARTY),
+            (Contest { actor: 11, reference: queued, ..terms }, BAD_PARTY),
+            (Contest { reference: queued, ..terms }, BAD_MOVE),
+            (Contest { actor: 10, reference: two, ..terms }, BAD_PARTY),
+            (Contest { reference: two, ..terms }, BAD_MOVE),
+        ] {
+            for moves in [&[3][..], &[7], &[0], &[]] {
+                assert_eq!(desk.contest(contest, moves, &[0]).number, number, "{contest:?}");
+            }
+        }
+    }
+    assert_eq!(desk.contest(wrong, &[3], &[0]).number, TERM_RANGE);
+    // Before all these a ledger or postings that are none.
+    let good = desk.postings.clone();
+    for actor in [0, 1] {
+        for postings in [vec![], vec![0; 64 * 5], vec![0; 64 * 6 - 1], vec![0; 64 * 7]] {
+            desk.postings = postings;
+            assert_eq!(desk.contest(Contest { actor, ..GOOD }, &[3], &[0]).number, BAD_LEDGER);
+        }
+        desk.postings = good.clone();
+        desk.postings[64 * 6 - 1] = 100_001;
+        assert_eq!(desk.contest(Contest { actor, ..GOOD }, &[], &[]).number, BAD_LEDGER);
+        desk.postings = good.clone();
+        desk.ledger[HEAD_ZERO] = 1;
+        assert_eq!(desk.contest(Contest { actor, ..GOOD }, &[3], &[0]).number, BAD_LEDGER);
+        desk.ledger[HEAD_ZERO] = 0;
+    }
+    assert_eq!(contest(&mut [], &[], &GOOD, &[3], &[0]), Answer::refused(BAD_LEDGER));
+    // What is posted is not compared.
+    desk.postings.fill(0);
+    assert_eq!(desk.contest(GOOD, &[3], &[0]).after, DISPLACED);
+    assert_eq!(desk.field(one, STATUS), DISPLACED);
+}
+
+#[test]
+fn rows_that_are_contested() {
+    // By type, the row above, who sells it and what a contest that would be lost answers.
+    for (reqtype, above, sold_by, number) in [
+        (RESALE, ORIGINAL_FIRM, 10, 0),
+        (RESALE, ORIGINAL_NON_FIRM, 10, BAD_MOVE),
+        (REDIRECT_FIRM, ORIGINAL_FIRM, 1, 0),
+        (REDIRECT_NON_FIRM, ORIGINAL_FIRM, 1, BAD_MOVE),
+    ] {
+        let mut desk = Desk::new(8, 6);
+        let one = desk.part_day(above, 1, 3);
+        let two = desk.derived(reqtype, one, 1, &[40, 60]);
+        let three = match reqtype {
+            RESALE | REDIRECT_FIRM => Some(desk.derived(RESALE, two, 1, &[7, 0])),
+            _ => None,
+        };
+        for actor in [1, 10, 20] {
+            let contest = Contest { actor, reference: two, ..GOOD };
+            let is_seller = actor == sold_by;
+            let expected = if is_seller { number } else { BAD_PARTY };
+            let answer = desk.contest(contest, &[3], &[0]);
+            assert_eq!(answer.number, expected, "{reqtype} of {above} by {actor}");
+            if answer.number == 0 {
+                assert_eq!((answer.after, answer.moved), (DISPLACED, 93));
+            }
+        }
+        // A resale of it is what it is, also once it is displaced.
+        if let Some(three) = three {
+            let contest = Contest { actor: 10, reference: three, ..GOOD };
+            let answer = desk.contest(contest, &[3], &[0]);
+            assert_eq!((answer.number, answer.moved), (number, if number == 0 { 7 } else { 0 }));
+        }
+        assert_eq!(balanced(&desk.ledger, &desk.tally), Ok(()));
+    }
+}
+
+#[test]
+fn transfers_and_relinquish_records_are_contested_as_their_class_is() {
+    let mut desk = Desk::new(8, 6);
+    let one = desk.part_day(ORIGINAL_FIRM, 1, 3);
+    let part = desk.ok(submission(20, PART_TRANSFER, 10, one, 1, 2, 1, 0), &[40]).reference;
+    desk.ok(on(APPROVE, 1, part), &[]);
+    desk.ok(seller(10, part, ACCEPTED, 0), &[]);
+    let full = desk.ok(submission(30, FULL_TRANSFER, 20, part, 1, 2, 1, 0), &[40]).reference;
+    desk.ok(on(APPROVE, 1, full), &[]);
+    desk.ok(seller(20, full, ACCEPTED, 0), &[]);
+    let redirect = desk.derived(REDIRECT_NON_FIRM, one, 2, &[10, 10]);
+    let record = desk.derived(RELINQUISH, redirect, 2, &[4, 0]);
+    // A type 8 row never goes from 13, and is not firm; a type 5 goes, and is not.
+    for reference in [redirect, record] {
+        let contest = Contest { reference, ..GOOD };
+        for moves in [&[3][..], &[0], &[]] {
+            assert_eq!(desk.contest(contest, moves, &[0]).number, BAD_MOVE);
+        }
+    }
+    // The full transfer has one hour, and nothing is left of the part.
+    let by_20 = Contest { actor: 20, reference: full, challenger: 2, holder: 1 };
+    assert_eq!(desk.contest(by_20, &[2], &[0]).moved, 40);
+    let by_10 = Contest { actor: 10, reference: part, challenger: 2, holder: 1 };
+    let answer = desk.contest(by_10, &[2], &[0]);
+    assert_eq!((answer.after, answer.moved), (DISPLACED, 0));
+    assert_eq!(balanced(&desk.ledger, &desk.tally), Ok(()));
+}
+
+#[test]
+fn the_last_one_is_for_a_row_lost() {
+    let mut desk = Desk::new(1, 6);
+    let one = desk.part_day(ORIGINAL_FIRM, 1, 3);
+    // Words that no list leaves behind: in one hour there is room for 99 more.
+    let displaced = Row::of(&desk.ledger, one).profile(DISPLACED_MW).start;
+    desk.ledger[displaced + 2] = 99_901;
+    assert!(sound(&desk.ledger));
+    for (moves, replies, number) in [
+        (&[3][..], &[0][..], BAD_LEDGER),
+        (&[3, 4], &[1, 0], BAD_LEDGER),
+        (&[3, 4], &[1, 1], 0),
+        (&[3], &[], 0),
+        (&[3, 0], &[1], 0),
+        (&[], &[], 0),
+        (&[3, 3], &[1, 0], TERM_RANGE),
+        (&[2], &[0], TERM_RANGE),
+        (&[6], &[1], TERM_RANGE),
+    ] {
+        assert_eq!(desk.contest(GOOD, moves, replies).number, number, "{moves:?} {replies:?}");
+    }
+    let wrong = Contest { holder: 1, ..GOOD };
+    assert_eq!(desk.contest(wrong, &[3], &[0]).number, TERM_RANGE);
+    // With just enough room it goes up to 100,000.
+    desk.ledger[displaced + 2] = 99_900;
+    assert_eq!(desk.contest(GOOD, &[3], &[0]).moved, 200);
+    assert_eq!(desk.profile(one, DISPLACED_MW), [0, 100, 100_000, 0, 0, 0]);
+}
+
+#[test]
+fn contests_between_the_actions_of_a_list() {
+    let mut desk = Desk::new(8, 6);
+    let one = desk.part_day(ORIGINAL_FIRM, 1, 3);
+    let sale = desk.derived(RESALE, one, 1, &[40, 60]);
+    let entries = desk.tally.entries().clone();
+    // Kept, unfinished and refused ones leave nothing in the tally.
+    for (moves, replies) in [(&[3, 0][..], &[1][..]), (&[3], &[]), (&[9], &[0])] {
+        desk.contest(GOOD, moves, replies);
+        assert_eq!(desk.tally.entries(), &entries);
+    }
+    assert_eq!(desk.contest(GOOD, &[3], &[0]).moved, 100);
+    assert_eq!(desk.tally.entries()[&one].status, DISPLACED);
+    assert_eq!(desk.tally.entries()[&sale], entries[&sale]);
+    // A lost row gives nothing up, and what comes back to it is displaced.
+    assert_eq!(desk.number(submission(20, RESALE, 10, one, 1, 3, 1, 0), &[1, 1]), BAD_RELATED);
+    desk.ok(seller(10, sale, ANNULLED, 0), &[]);
+    assert_eq!(desk.profile(one, AVAILABLE), [0; 6]);
+    assert_eq!(desk.profile(one, DISPLACED_MW), [0, 100, 100, 0, 0, 0]);
+    assert_eq!(balanced(&desk.ledger, &desk.tally), Ok(()));
+    assert_eq!(open(&desk.ledger), 0);
+    // Left out of the list, the lost one is missed.
+    let mut without = desk.tally.clone();
+    let back = Answer { number: 0, reference: one, before: 13, after: 13, moved: 0 };
+    without.feed(&[], &GOOD.displacement(), &back);
+    let told = balanced(&desk.ledger, &without).unwrap_err();
+    assert_eq!(told, "reference 1: status 13 in the tally, 15 in the ledger");
+}
+
+#[test]
+fn a_lost_contest_frees_its_path() {
+    let mut desk = Desk::with_nothing_posted(8, 6);
+    desk.ok(posting(1, 0, 6), &[100; 6]);
+    desk.part_day(ORIGINAL_FIRM, 1, 3);
+    let longer = desk.ok(submission(20, ORIGINAL_FIRM, 1, 0, 1, 6, 1, 0), &[100; 5]).reference;
+    let accept = seller(1, longer, ACCEPTED, 0);
+    assert_eq!(desk.number(accept, &[]), OVER_POSTING);
+    assert_eq!(desk.contest(GOOD, &[5, 0], &[1]), stands(1));
+    assert_eq!(desk.number(accept, &[]), OVER_POSTING);
+    assert_eq!(desk.contest(GOOD, &[5], &[0]).after, DISPLACED);
+    desk.ok(accept, &[]);
+    assert_eq!(path_use(&desk.ledger, 1), [0, 100, 100, 100, 100, 100]);
+    assert_eq!(balanced(&desk.ledger, &desk.tally), Ok(()));
 }

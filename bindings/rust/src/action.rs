@@ -187,8 +187,8 @@ impl Action {
     }
 }
 
-/// The answer to an action. A refusal carries its number and four zeros, the
-/// clock and a posting five zeros.
+/// The answer to an action or a contest. A refusal carries its number and four
+/// zeros, the clock and a posting five zeros.
 #[repr(C)]
 #[derive(Clone, Copy, Debug, Default, PartialEq, Eq)]
 pub struct Answer {
@@ -205,7 +205,7 @@ pub struct Answer {
 }
 
 impl Answer {
-    /// True where the action was accepted.
+    /// True where the action or the contest was accepted.
     pub fn is_accepted(&self) -> bool {
         self.number == 0
     }
@@ -223,6 +223,13 @@ impl Answer {
     /// The status after, none for the clock, a posting or a refusal.
     pub fn status_after(&self) -> Option<Status> {
         (self.after != 0).then_some(Status(self.after))
+    }
+
+    /// True where the row was displaced: by its seller's action, or by a contest that its
+    /// holder lost. Where a contest was kept or left unfinished, the row is CONFIRMED
+    /// after it as before.
+    pub fn displaces(&self) -> bool {
+        self.status_after() == Some(Status::DISPLACED)
     }
 }
 
@@ -274,5 +281,8 @@ mod tests {
         assert!(answer.is_accepted() && answer.refusal().is_none());
         let refused = Answer { number: 14, ..Answer::default() };
         assert_eq!(refused.refusal(), Some(Refusal::SHORT));
+        let lost = Answer { number: 0, reference: 1, before: 13, after: 15, moved: 7 };
+        let kept = Answer { after: 13, moved: 0, ..lost };
+        assert_eq!([lost, kept, refused].map(|answer| answer.displaces()), [true, false, false]);
     }
 }

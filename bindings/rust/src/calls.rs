@@ -2,7 +2,7 @@
 //!
 //! These give the numbers as they are; [`Ledger`](crate::Ledger) is handier.
 
-use crate::{Action, Answer};
+use crate::{Action, Answer, Contest};
 
 mod extern_c {
     use super::{Action, Answer};
@@ -30,6 +30,20 @@ mod extern_c {
             answers: *mut Answer,
             answers_len: usize,
         ) -> u32;
+        pub fn luddrisa_contest(
+            ledger: *mut u32,
+            ledger_len: usize,
+            postings: *const u32,
+            postings_len: usize,
+            actor: u32,
+            reference: u32,
+            challenger: u32,
+            holder: u32,
+            moves: *const u32,
+            moves_len: usize,
+            replies: *const u32,
+            replies_len: usize,
+        ) -> Answer;
         pub fn luddrisa_charge(
             ledger: *const u32,
             len: usize,
@@ -102,6 +116,35 @@ pub fn batch(
             actions.len(),
             answers.as_mut_ptr(),
             answers.len(),
+        )
+    }
+}
+
+/// Runs a contest from words: a move is a term in hours or 0, which stops, and a reply
+/// is 0, which yields, or any other word, which matches. A lost one displaces the row.
+pub fn contest(
+    ledger: &mut [u32],
+    postings: &[u32],
+    contest: &Contest,
+    moves: &[u32],
+    replies: &[u32],
+) -> Answer {
+    // SAFETY: the pointers and the lengths are those of slices lent for the call; the
+    // ledger, which alone is written, is borrowed mutably and so overlaps nothing.
+    unsafe {
+        extern_c::luddrisa_contest(
+            ledger.as_mut_ptr(),
+            ledger.len(),
+            postings.as_ptr(),
+            postings.len(),
+            contest.actor,
+            contest.reference,
+            contest.challenger,
+            contest.holder,
+            moves.as_ptr(),
+            moves.len(),
+            replies.as_ptr(),
+            replies.len(),
         )
     }
 }

@@ -2,7 +2,7 @@
 
 use crate::calls;
 use crate::names::{Flags, Refusal, RequestType, Status, Zone};
-use crate::{Action, Answer};
+use crate::{Action, Answer, Contest, Move, Reply};
 
 const HEAD_WORDS: usize = 8;
 const FIELD_WORDS: usize = 16;
@@ -176,8 +176,8 @@ impl Ledger {
 
     /// Takes a stored ledger up again, once its words are tested: they must be sound,
     /// or else it is [`Refusal::UNSOUND`], and every hour must balance, or else it is
-    /// [`Refusal::UNBALANCED`]. What actions left of a ledger from [`Ledger::create`]
-    /// always opens.
+    /// [`Refusal::UNBALANCED`]. What actions and contests left of a ledger from
+    /// [`Ledger::create`] always opens.
     ///
     /// An hour of a confirmed or displaced row balances where its granted is its own
     /// available, displaced and reduced and what the confirmed and displaced rows
@@ -259,6 +259,68 @@ impl Ledger {
         let mut answers = vec![Answer::default(); actions.len()];
         calls::batch(&mut self.words, &mut postings.words, words, actions, &mut answers);
         answers
+    }
+
+    /// Runs a contest for a firm row, from the challenger's moves and the holder's replies
+    /// in turn. Where it is lost the row is displaced, with the answer that its
+    /// displacement would have; [`Answer::displaces`] tells. Where the challenger stops
+    /// the row is kept, where a list runs out the contest is left unfinished: both are
+    /// accepted, with the row CONFIRMED before and after, and alter nothing. Moves and
+    /// replies behind the end are not read.
+    ///
+    /// Refused as a displacement by the same actor would be; then with
+    /// [`Refusal::WRONG_MOVE`] where the row is not firm, and with
+    /// [`Refusal::TERM_OUT_OF_RANGE`] where a greatest term does not fit, or the first
+    /// term or match that does not, whatever was matched before.
+    ///
+    /// ```
+    /// use luddrisa::{
+    ///     Action, Contest, Flags, Ledger, Move, Postings, Profiles, Refusal, Reply, RequestType,
+    ///     Status,
+    /// };
+    ///
+    /// // Customer 10 holds 100 MW for 24 of 72 hours.
+    /// let mut ledger = Ledger::create(8, 72, 1, 3_600, 0)?;
+    /// let mut postings = Postings::none(&ledger);
+    /// let mut profiles = Profiles::new();
+    /// let list = [
+    ///     Action::post(1, 7).span(0, 72).profile(profiles.add(&[100; 72])),
+    ///     Action::submit(10, RequestType::ORIGINAL_FIRM, 1)
+    ///         .path(7)
+    ///         .span(0, 24)
+    ///         .flags(Flags::PRECONFIRMED)
+    ///         .profile(profiles.add(&[100; 24])),
+    ///     Action::seller_status(1, 1, Status::ACCEPTED),
+    /// ];
+    /// ledger.answers(&mut postings, profiles.words(), &list);
+    ///
+    /// let contest = Contest { actor: 1, reference: 1, challenger: 72, holder: 48 };
+    /// // 48 hours are matched, and the challenger goes no further.
+    /// let moves = [Move::term(48)?, Move::Stop];
+    /// let kept = ledger.contest(&postings, &contest, &moves, &[Reply::Match]);
+    /// assert!(kept.is_accepted() && !kept.displaces());
+    /// // It can't name them again once they are matched, and the holder can't match 72.
+    /// let moves = [Move::term(48)?, Move::term(48)?];
+    /// let replies = [Reply::Match, Reply::Match];
+    /// let refused = ledger.contest(&postings, &contest, &moves, &replies);
+    /// assert_eq!(refused.refusal(), Some(Refusal::TERM_OUT_OF_RANGE));
+    /// let moves = [Move::term(48)?, Move::term(72)?];
+    /// let lost = ledger.contest(&postings, &contest, &moves, &[Reply::Match, Reply::Yield]);
+    /// assert!(lost.displaces());
+    /// assert_eq!(lost.moved, 2_400);
+    /// assert_eq!(ledger.row(1).unwrap().status, Status::DISPLACED);
+    /// # Ok::<(), Refusal>(())
+    /// ```
+    pub fn contest(
+        &mut self,
+        postings: &Postings,
+        contest: &Contest,
+        moves: &[Move],
+        replies: &[Reply],
+    ) -> Answer {
+        let moves: Vec<u32> = moves.iter().map(|&of| of.into()).collect();
+        let replies: Vec<u32> = replies.iter().map(|&of| of.into()).collect();
+        calls::contest(&mut self.words, &postings.words, contest, &moves, &replies)
     }
 
     /// The charge of a CONFIRMED row in cents: MW-hours granted × bid ÷ 24, a

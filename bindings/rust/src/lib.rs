@@ -2,12 +2,12 @@
 //!
 //! A [`Ledger`] holds requests from submission to final status, the megawatts
 //! they move between rows hour by hour, and their prices. It changes only
-//! through an [`Action`]; each action gets one [`Answer`], which either accepts
-//! it or carries the number of a [`Refusal`], and a refused action changes
-//! nothing. Beside it stand the [`Postings`], what the provider says that each
-//! path can carry: no path is ever used beyond them. Documents 01 and 02 state
-//! the rules; this crate calls the static library that carries them out, and adds
-//! names and types.
+//! through an [`Action`], or a [`Contest`] for a row that its holder loses; each gets
+//! one [`Answer`], which either accepts it or carries the number of a [`Refusal`],
+//! and what is refused changes nothing. Beside it stand the [`Postings`], what the
+//! provider says that each path can carry: no path is ever used beyond them.
+//! Documents 01 and 02 state the rules; this crate calls the static library that
+//! carries them out, and adds names and types.
 //!
 //! # Features
 //!
@@ -15,7 +15,7 @@
 //! [`write_stamp`] and the module [`calls`]. Binaries and tests are then linked
 //! with `libluddrisa.a`, looked for in the directory that the environment variable
 //! `LUDDRISA_ARCHIVE_DIR` names, or else in `../../target/staticlib`. Without
-//! the feature there are only actions, answers and names.
+//! the feature there are only actions, contests, answers and names.
 //!
 //! # A first day
 //!
@@ -59,11 +59,15 @@
 //! hour balances; actions do not test it.
 //! A list of actions is not all-or-nothing: each has its own answer. A charge
 //! goes by what was granted and ignores reductions, resales and transfers.
+//! A contest is a call of its own and no action. Only a firm row is contested, and
+//! only by its seller; a match keeps the row as it is and does not lengthen it. A row
+//! over all hours of its ledger can't be lost, for no longer term can be named.
 
 #![warn(missing_docs)]
 #![cfg_attr(not(feature = "archive"), allow(rustdoc::broken_intra_doc_links))]
 
 mod action;
+mod contest;
 mod names;
 
 #[cfg(feature = "archive")]
@@ -72,6 +76,7 @@ pub mod calls;
 mod ledger;
 
 pub use action::{Action, Answer, ProfileAt, Profiles};
+pub use contest::{Contest, Move, Reply};
 pub use names::{Flags, Kind, Refusal, RequestType, Status, Zone};
 
 #[cfg(feature = "archive")]

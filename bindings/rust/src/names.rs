@@ -1,4 +1,4 @@
-//! The numbers of document 01 with their names.
+//! The numbers of documents 01 and 02 with their names.
 
 use std::fmt;
 use std::ops::BitOr;
@@ -119,7 +119,7 @@ named_numbers! {
         LEDGER_FULL = 8, "all rows are used";
         WRONG_RELATED = 9, "the related row is not confirmed or does not fit";
         WRONG_FLAGS = 10, "the flags are not those of a submission";
-        WRONG_MOVE = 11, "the row's status, type or flags do not allow it";
+        WRONG_MOVE = 11, "the row's status, type, class or flags do not allow it";
         WRONG_TERMS = 12, "the price is too high, or price or capacity do not agree";
         NOT_APPROVED = 13, "the transfer is not approved";
         SHORT = 14, "the available megawatts do not suffice in some hour";
@@ -131,6 +131,7 @@ named_numbers! {
         UNBALANCED = 20, "some hour of the ledger does not balance";
         WRONG_PATH = 21, "the path is unknown, or not that of the related row";
         OVER_POSTED = 22, "use of a path would exceed what is posted for it in some hour";
+        TERM_OUT_OF_RANGE = 25, "a term named in a contest, or a party's greatest term, is out of range";
     }
 }
 
@@ -242,14 +243,14 @@ mod tests {
         assert_eq!(numbers(Kind::ALL), (1..=8).collect::<Vec<_>>());
         assert_eq!(numbers(RequestType::ALL), (1..=8).collect::<Vec<_>>());
         assert_eq!(numbers(Status::ALL), (1..=17).collect::<Vec<_>>());
-        assert_eq!(numbers(Refusal::ALL), (1..=22).collect::<Vec<_>>());
+        assert_eq!(numbers(Refusal::ALL), (1..=22).chain([25]).collect::<Vec<_>>());
         assert_eq!(numbers(Zone::ALL), (0..=8).collect::<Vec<_>>());
     }
 
     #[test]
     fn every_number_has_its_own_text() {
         let texts: HashSet<_> = Refusal::ALL.iter().map(|refusal| refusal.to_string()).collect();
-        assert_eq!(texts.len(), 22);
+        assert_eq!(texts.len(), 23);
         let texts: HashSet<_> = Status::ALL.iter().map(|status| status.to_string()).collect();
         assert_eq!(texts.len(), 17);
         assert_eq!(Refusal::UNBALANCED.to_string(), "some hour of the ledger does not balance");
@@ -278,6 +279,7 @@ mod tests {
         assert_eq!(Refusal::of(0), None);
         assert_eq!(Refusal::of(14), Some(Refusal::SHORT));
         assert_eq!(Refusal::of(20), Some(Refusal::UNBALANCED));
+        assert_eq!(Refusal::of(25), Some(Refusal::TERM_OUT_OF_RANGE));
         assert_eq!(Refusal::check(17), Err(Refusal::TOO_FEW_ANSWERS));
         assert_eq!(Refusal::check(0), Ok(()));
     }

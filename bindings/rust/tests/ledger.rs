@@ -1,8 +1,8 @@
 //! The ledger that owns its words, and its postings.
 
 use luddrisa::{
-    read_stamp, write_stamp, Action, Answer, Flags, Ledger, Postings, ProfileAt, Profiles, Refusal,
-    RequestType, Status, Zone,
+    read_stamp, write_stamp, Action, Answer, Contest, Flags, Ledger, Move, Postings, ProfileAt,
+    Profiles, Refusal, Reply, RequestType, Status, Zone,
 };
 
 /// Customer 10's original of 100 MW over 4 hours, preconfirmed and accepted, on
@@ -355,6 +355,163 @@ fn too_few_places_do_nothing() {
     assert_eq!(ledger.batch(&mut postings, &[], &list, &mut three), Ok(()));
     assert_eq!(three, [Answer::default(), Answer::default(), mark]);
     assert_eq!(ledger.head().unwrap().now, 6);
+}
+
+/// Customer 10 holds 50 MW in hours 2 and 3 of eight and has resold 20 of them to 20.
+fn with_a_resale() -> (Ledger, Postings) {
+    let mut ledger = Ledger::create(4, 8, 1, 3_600, 0).unwrap();
+    let mut postings = Postings::none(&ledger);
+    let mut profiles = Profiles::new();
+    let two_hours = |action: Action| action.path(3).span(2, 4).flags(Flags::PRECONFIRMED);
+    let list = [
+        Action::post(1, 3).span(0, 8).profile(profiles.add(&[50; 8])),
+        two_hours(Action::submit(10, RequestType::ORIGINAL_FIRM, 1))
+            .profile(profiles.add(&[50, 50])),
+        Action::seller_status(1, 1, Status::ACCEPTED),
+        two_hours(Action::submit(20, RequestType::RESALE, 10))
+            .related(1)
+            .profile(profiles.add(&[20, 20])),
+        Action::seller_status(10, 2, Status::ACCEPTED),
+    ];
+    let answers = ledger.answers(&mut postings, profiles.words(), &list);
+    assert!(answers.iter().all(Answer::is_accepted), "{answers:?}");
+    (ledger, postings)
+}
+
+/// The challenger can go to 6 hours, the holder to 4.
+const FOR_THE_ORIGINAL: Contest = Contest { actor: 1, reference: 1, challenger: 6, holder: 4 };
+
+fn terms(hours: &[u32]) -> Vec<Move> {
+    hours.iter().map(|&hours| Move::term(hours).unwrap()).collect()
+}
+
+#[test]
+fn a_contest_is_kept_unfinished_or_lost() {
+    use Reply::{Match, Yield};
+    let (start, postings) = with_a_resale();
+    let stop = |hours: &[u32]| [&terms(hours)[..], &[Move::Stop]].concat();
+    let stands = "0 1 13 13 0";
+    let lost = "0 1 13 15 60";
+    let refused = "25 0 0 0 0";
+    let cases: [(Vec<Move>, &[Reply], &str); 14] = [
+        (stop(&[]), &[], stands),
+        (stop(&[3]), &[Match], stands),
+        (stop(&[3, 4]), &[Match, Match], stands),
+        (vec![], &[], stands),
+        (vec![], &[Yield], stands),
+        (terms(&[3]), &[], stands),
+        (terms(&[3, 4]), &[Match, Match], stands),
+        (terms(&[3]), &[Yield], lost),
+        (terms(&[3, 4, 6]), &[Match, Match, Yield], lost),
+        (terms(&[6, 1]), &[Yield, Match, Match], lost),
+        (terms(&[2]), &[Yield], refused),
+        (terms(&[3, 3]), &[Match, Yield], refused),
+        (terms(&[7]), &[], refused),
+        (terms(&[3, 5]), &[Match, Match], refused),
+    ];
+    for (moves, replies, expected) in cases {
+        let mut ledger = start.clone();
+        let answer = ledger.contest(&postings, &FOR_THE_ORIGINAL, &moves, replies);
+        assert_eq!(answer.to_string(), expected, "{moves:?} {replies:?}");
+        assert_eq!(answer.displaces(), expected == lost);
+        assert_eq!(ledger != start, expected == lost);
+        if expected == refused {
+            assert_eq!(answer.refusal(), Some(Refusal::TERM_OUT_OF_RANGE));
+        }
+    }
+}
+
+#[test]
+fn a_lost_contest_is_that_displacement() {
+    let (mut ledger, mut postings) = with_a_resale();
+    let mut displaced = ledger.clone();
+    let posted = postings.clone();
+    let by_action = displaced.act(&mut postings, &[], &FOR_THE_ORIGINAL.displacement());
+    let lost = ledger.contest(&postings, &FOR_THE_ORIGINAL, &terms(&[5]), &[Reply::Yield]);
+    assert_eq!((lost, &ledger), (by_action, &displaced));
+    assert_eq!(postings, posted);
+    let row = ledger.row(1).unwrap();
+    assert_eq!((row.status, row.start, row.stop), (Status::DISPLACED, 2, 4));
+    assert_eq!((row.available, row.displaced), (&[0; 8][..], &[0, 0, 30, 30, 0, 0, 0, 0][..]));
+    assert_eq!(ledger.row(2).unwrap().status, Status::CONFIRMED);
+    assert!(Ledger::open(ledger.words()).is_ok());
+    // It can't be lost again.
+    let again = ledger.contest(&postings, &FOR_THE_ORIGINAL, &[], &[]);
+    assert_eq!(again.refusal(), Some(Refusal::WRONG_MOVE));
+}
+
+#[test]
+fn a_contest_is_the_sellers() {
+    let (mut ledger, postings) = with_a_resale();
+    let for_the_resale = |actor| Contest { actor, reference: 2, ..FOR_THE_ORIGINAL };
+    for (contest, refusal) in [
+        (Contest { actor: 10, ..FOR_THE_ORIGINAL }, Refusal::WRONG_PARTY),
+        (Contest { actor: 0, ..FOR_THE_ORIGINAL }, Refusal::WRONG_PARTY),
+        (Contest { reference: 3, ..FOR_THE_ORIGINAL }, Refusal::NO_SUCH_REFERENCE),
+        (for_the_resale(1), Refusal::WRONG_PARTY),
+        (for_the_resale(20), Refusal::WRONG_PARTY),
+        (Contest { challenger: 0, ..FOR_THE_ORIGINAL }, Refusal::TERM_OUT_OF_RANGE),
+        (Contest { challenger: 9, ..FOR_THE_ORIGINAL }, Refusal::TERM_OUT_OF_RANGE),
+        (Contest { holder: 9, ..FOR_THE_ORIGINAL }, Refusal::TERM_OUT_OF_RANGE),
+        (Contest { holder: 1, ..FOR_THE_ORIGINAL }, Refusal::TERM_OUT_OF_RANGE),
+    ] {
+        let answer = ledger.contest(&postings, &contest, &terms(&[3]), &[Reply::Yield]);
+        assert_eq!(answer, Answer { number: refusal.0, ..Answer::default() }, "{contest:?}");
+    }
+    // All hours can be a greatest term, and the row's own those of the holder.
+    let widest = Contest { challenger: 8, holder: 2, ..for_the_resale(10) };
+    let lost = ledger.contest(&postings, &widest, &terms(&[8]), &[Reply::Yield]);
+    assert_eq!(lost.to_string(), "0 2 13 15 40");
+    // Nothing comes back to the row it was bought from.
+    assert_eq!(ledger.row(1).unwrap().available[2..4], [30, 30]);
+}
+
+#[test]
+fn rows_that_are_not_firm_are_not_contested() {
+    let (mut ledger, mut postings) = with_a_resale();
+    let words = [5];
+    let one_hour = ProfileAt { offset: 0, length: 1 };
+    let redirect = Action::submit(10, RequestType::REDIRECT_NON_FIRM, 1)
+        .path(3)
+        .related(1)
+        .span(2, 3)
+        .flags(Flags::PRECONFIRMED)
+        .profile(one_hour);
+    let accept = Action::seller_status(1, 3, Status::ACCEPTED);
+    assert_eq!(ledger.answers(&mut postings, &words, &[redirect, accept])[1].moved, 5);
+    let contest = Contest { reference: 3, ..FOR_THE_ORIGINAL };
+    let before = ledger.clone();
+    let answer = ledger.contest(&postings, &contest, &terms(&[3]), &[Reply::Yield]);
+    assert_eq!(answer.refusal(), Some(Refusal::WRONG_MOVE));
+    assert_eq!(ledger, before);
+    // Its seller can displace it all the same.
+    assert!(ledger.act(&mut postings, &[], &contest.displacement()).displaces());
+}
+
+#[test]
+fn any_words_are_contested() {
+    let (start, good) = with_a_resale();
+    for postings in [vec![], vec![0; 64 * 8 - 1], vec![100_001; 64 * 8]] {
+        let mut ledger = start.clone();
+        let postings = Postings::from_words(postings);
+        let answer = ledger.contest(&postings, &FOR_THE_ORIGINAL, &terms(&[3]), &[Reply::Yield]);
+        assert_eq!((answer.refusal(), &ledger), (Some(Refusal::UNSOUND), &start));
+    }
+    for words in [vec![], vec![5; 3], vec![u32::MAX; 8], vec![1; 400]] {
+        let mut ledger = Ledger::from_words_unopened(words.clone());
+        let answer = ledger.contest(&good, &FOR_THE_ORIGINAL, &terms(&[3]), &[Reply::Yield]);
+        assert_eq!(answer.refusal(), Some(Refusal::UNSOUND));
+        assert_eq!(ledger.into_words(), words);
+    }
+    // A displaced word would pass 100,000: told where the row is lost, and only there.
+    let mut words = start.into_words();
+    let displaced = 8 + 16 + 3 * 8 + 3;
+    words[displaced] = 99_971;
+    let mut ledger = Ledger::from_words_unopened(words);
+    let mut run =
+        |replies: &[Reply]| ledger.contest(&good, &FOR_THE_ORIGINAL, &terms(&[3]), replies);
+    assert_eq!(run(&[Reply::Yield]).refusal(), Some(Refusal::UNSOUND));
+    assert_eq!(run(&[Reply::Match]).to_string(), "0 1 13 13 0");
 }
 
 #[test]

@@ -53,3 +53,8 @@ pub fn answer_to_library(answer: &model::Answer) -> luddrisa::Answer {
 pub fn answer_to_model(answer: &luddrisa::Answer) -> model::Answer {
     answer!(model, answer)
 }
+
+pub fn contest_to_library(contest: &model::Contest) -> luddrisa::Contest {
+    let &model::Contest { actor, reference, challenger, holder } = contest;
+    luddrisa::Contest { actor, reference, challenger, holder }
+}

@@ -4,6 +4,11 @@
 use luddrisa_model::*;
 
 use crate::edges::{laid_out, length_with};
+use crate::plays::Check::{self, *};
+use crate::plays::{
+    carried_out, greatest, is_firm, own_hours, would_pass, Contesting, Ending, Places, Play,
+    CONTESTING,
+};
 use crate::rules::{Model, Rules};
 
 /// One action as it was handed over.
@@ -12,6 +17,13 @@ pub struct Case<'a> {
     postings: &'a [u32],
     words: &'a [u32],
     action: &'a Action,
+}
+
+/// One contest as it was handed over.
+pub struct Dispute<'a> {
+    before: &'a [u32],
+    postings: &'a [u32],
+    play: &'a Play,
 }
 
 type BatchCall = fn(&mut [u32], &mut [u32], &[u32], &[Action], &mut [Answer]) -> u32;
@@ -24,6 +36,10 @@ enum Fault {
     Batch(BatchCall),
     Create(fn(&mut [u32], [u32; 5]) -> u32),
     Open(fn(&[u32]) -> u32),
+    /// The rules of a contest, with one part replaced.
+    Contest(Contesting),
+    /// What it does with ledger, postings and answer after the model's contest.
+    Contested(fn(&Dispute, &mut [u32], &mut [u32], &mut Answer)),
     Charge(fn(&[u32], u32) -> (u32, u64)),
     Profile(fn(&[u32], u32, &mut [u32]) -> usize),
     ReadStamp(fn(&[u8]) -> (u32, u32)),
@@ -44,6 +60,11 @@ impl Faulty {
     /// True where the fault is one of opening.
     pub fn is_of_opening(&self) -> bool {
         matches!(self.fault, Fault::Open(_))
+    }
+
+    /// True where the fault is one of contests.
+    pub fn is_of_contests(&self) -> bool {
+        matches!(self.fault, Fault::Contest(_) | Fault::Contested(_))
     }
 }
 
@@ -86,6 +107,28 @@ impl Rules for Faulty {
                 0
             }
             _ => Model.batch(ledger, postings, words, actions, answers),
+        }
+    }
+
+    fn contest(
+        &self,
+        ledger: &mut [u32],
+        postings: &mut [u32],
+        contest: &Contest,
+        moves: &[u32],
+        replies: &[u32],
+    ) -> Answer {
+        let play = || Play { contest: *contest, moves: moves.to_vec(), replies: replies.to_vec() };
+        match self.fault {
+            Fault::Contest(by) => carried_out(&by, ledger, postings, &play()),
+            Fault::Contested(spoil) => {
+                let (before, posted_before) = (ledger.to_vec(), postings.to_vec());
+                let mut answer = Model.contest(ledger, postings, contest, moves, replies);
+                let dispute = Dispute { before: &before, postings: &posted_before, play: &play() };
+                spoil(&dispute, ledger, postings, &mut answer);
+                answer
+            }
+            _ => Model.contest(ledger, postings, contest, moves, replies),
         }
     }
 
@@ -594,6 +637,44 @@ fn first_hours(ledger: &[u32], reference: u32) -> std::ops::Range<usize> {
     }
 }
 
+// Contests.
+
+/// The row of a contest that was lost.
+fn lost_row(ledger: &[u32], answer: &Answer) -> Option<Row> {
+    row_of(ledger, answer).filter(|_| answer.after == DISPLACED)
+}
+
+/// The row of one that was kept or left unfinished.
+fn row_that_stands(ledger: &[u32], answer: &Answer) -> Option<Row> {
+    row_of(ledger, answer).filter(|_| answer.after == CONFIRMED)
+}
+
+/// Words of a profile put back to what they were.
+fn put_back(dispute: &Dispute, ledger: &mut [u32], words: std::ops::Range<usize>) {
+    ledger[words.clone()].copy_from_slice(&dispute.before[words]);
+}
+
+/// The contest once more as it was, but for its first rounds alone.
+fn first_rounds(dispute: &Dispute, ledger: &mut [u32], rounds: usize) -> Answer {
+    let mut play = dispute.play.clone();
+    play.moves.truncate(rounds);
+    play.replies.truncate(rounds);
+    ledger.copy_from_slice(dispute.before);
+    carried_out(&CONTESTING, ledger, dispute.postings, &play)
+}
+
+/// Hours in which a profile has something.
+fn hours_with_some(ledger: &[u32], row: Row, profile: usize) -> u32 {
+    ledger[row.profile(profile)].iter().map(|&mw| u32::from(mw > 0)).sum()
+}
+
+/// One of the words for a match.
+const MATCHES: u32 = 1;
+
+fn has_own_class(ledger: &[u32], row: Row) -> bool {
+    !matches!(row.get(ledger, TYPE), RESALE | PART_TRANSFER | FULL_TRANSFER)
+}
+
 const PLAIN: Faulty =
     Faulty { name: "", fault: Fault::Act(|_, _, _| ()), unbalanced: false, overused: false };
 
@@ -625,6 +706,26 @@ const fn opening(name: &'static str, open: fn(&[u32]) -> u32) -> Faulty {
     Faulty { name, fault: Fault::Open(open), ..PLAIN }
 }
 
+const fn contesting(name: &'static str, by: Contesting) -> Faulty {
+    Faulty { name, fault: Fault::Contest(by), ..PLAIN }
+}
+
+/// What is looked at before the moves, in another order.
+const fn in_order(name: &'static str, checks: &'static [Check]) -> Faulty {
+    contesting(name, Contesting { checks, ..CONTESTING })
+}
+
+type Spoil = fn(&Dispute, &mut [u32], &mut [u32], &mut Answer);
+
+const fn contested(name: &'static str, spoil: Spoil) -> Faulty {
+    Faulty { name, fault: Fault::Contested(spoil), ..PLAIN }
+}
+
+/// The tally alone must find it, over lists with contests.
+const fn losing(name: &'static str, spoil: Spoil) -> Faulty {
+    Faulty { unbalanced: true, ..contested(name, spoil) }
+}
+
 /// No fault: the limits judged once more, on the ledger as it would be left and by
 /// the use worked out here, before a word over 100,000. It must agree with the
 /// model everywhere.
@@ -649,6 +750,9 @@ pub const JUDGED_APART: Faulty = acting("judges the limits apart", |case, ledger
 /// No fault: opening worked out apart, which must agree with the model everywhere.
 pub const OPENED_APART: Faulty =
     opening("opens apart", |ledger| opened(ledger, &Opening { ..OPENING }));
+
+/// No fault: contests carried out apart, which must agree with the model everywhere.
+pub const CONTESTED_APART: Faulty = contesting("contests apart", CONTESTING);
 
 /// All planted faults; the first six are those the paper names.
 pub const FAULTS: &[Faulty] = &[
@@ -1729,6 +1833,611 @@ pub const FAULTS: &[Faulty] = &[
         }
     }),
     opening("tells 1 for 20", |ledger| Model.open(ledger).min(BAD_LEDGER)),
+    // Contests: the moves.
+    contesting(
+        "lets a term equal the last",
+        Contesting { not_longer: |last, term| term < last, ..CONTESTING },
+    ),
+    contesting(
+        "does not hold the first term to the row's hours",
+        Contesting {
+            last: |play, _, round| if round == 0 { 0 } else { play.moves[round - 1] },
+            ..CONTESTING
+        },
+    ),
+    contesting(
+        "does not take a match for the last term",
+        Contesting { last: |_, present, _| present, ..CONTESTING },
+    ),
+    contesting(
+        "takes the word of a match for the last term",
+        Contesting {
+            last: |play, present, round| match round {
+                0 => present,
+                _ => play.replies.get(round - 1).copied().unwrap_or(present),
+            },
+            ..CONTESTING
+        },
+    ),
+    contesting(
+        "lets a term be above the challenger's greatest",
+        Contesting { above: |_, _| false, ..CONTESTING },
+    ),
+    contesting(
+        "does not let a term be the challenger's greatest",
+        Contesting { above: |contest, term| term >= contest.challenger, ..CONTESTING },
+    ),
+    contesting(
+        "holds a term to the holder's greatest",
+        Contesting { above: |contest, term| term > contest.holder, ..CONTESTING },
+    ),
+    contesting(
+        "lets a match be above the holder's greatest",
+        Contesting { match_above: |_, _| false, ..CONTESTING },
+    ),
+    contesting(
+        "does not let a match be the holder's greatest",
+        Contesting { match_above: |contest, term| term >= contest.holder, ..CONTESTING },
+    ),
+    contesting(
+        "holds a match to the challenger's greatest",
+        Contesting { match_above: |contest, term| term > contest.challenger, ..CONTESTING },
+    ),
+    contesting(
+        "takes a match above the greatest for a yield",
+        Contesting {
+            ends: |_, ending| match ending {
+                Ending::MatchAbove => Ending::Lost,
+                ending => ending,
+            },
+            ..CONTESTING
+        },
+    ),
+    contesting(
+        "takes a term that does not fit for a stop",
+        Contesting {
+            ends: |_, ending| match ending {
+                Ending::TermAbove | Ending::TermNotLonger => Ending::Kept,
+                ending => ending,
+            },
+            ..CONTESTING
+        },
+    ),
+    contesting(
+        "loses a row where the challenger stops",
+        Contesting {
+            ends: |_, ending| if ending == Ending::Kept { Ending::Lost } else { ending },
+            ..CONTESTING
+        },
+    ),
+    contesting(
+        "loses a row where no term is named any more",
+        Contesting {
+            ends: |_, ending| if ending == Ending::NoTerm { Ending::Lost } else { ending },
+            ..CONTESTING
+        },
+    ),
+    contesting(
+        "loses a row where a term is not answered",
+        Contesting {
+            ends: |_, ending| if ending == Ending::NoAnswer { Ending::Lost } else { ending },
+            ..CONTESTING
+        },
+    ),
+    contesting(
+        "keeps a row that was lost",
+        Contesting {
+            ends: |_, ending| if ending == Ending::Lost { Ending::Kept } else { ending },
+            ..CONTESTING
+        },
+    ),
+    contesting(
+        "goes by the greatest terms instead of the moves",
+        Contesting {
+            ends: |play, ending| match (ending.number(), &play.contest) {
+                (0, contest) if contest.challenger > contest.holder => Ending::Lost,
+                (0, _) => Ending::Kept,
+                _ => ending,
+            },
+            ..CONTESTING
+        },
+    ),
+    contesting(
+        "takes the challenger's 0 for a term",
+        Contesting { stops: |_| false, ..CONTESTING },
+    ),
+    contesting(
+        "takes a match by another word than 1 for a yield",
+        Contesting { yields: |word| word != MATCHES, ..CONTESTING },
+    ),
+    contesting(
+        "refuses replies other than 0 and 1",
+        Contesting {
+            ends: |play, ending| match ending.number() {
+                0 if play.replies.iter().any(|&word| word > MATCHES) => Ending::MatchAbove,
+                _ => ending,
+            },
+            ..CONTESTING
+        },
+    ),
+    contesting(
+        "looks for the answer before the term is judged",
+        Contesting { places: Places { no_answer: 1, ..CONTESTING.places }, ..CONTESTING },
+    ),
+    contesting(
+        "loses a row to a term that does not fit",
+        Contesting { places: Places { yields: 1, ..CONTESTING.places }, ..CONTESTING },
+    ),
+    contesting(
+        "refuses to yield to a term above the holder's greatest",
+        Contesting {
+            ends: |play, ending| {
+                let round = play.replies.iter().position(|&word| word == 0);
+                let term = round.and_then(|round| play.moves.get(round));
+                match term {
+                    Some(&term) if ending == Ending::Lost && term > play.contest.holder => {
+                        Ending::MatchAbove
+                    }
+                    _ => ending,
+                }
+            },
+            ..CONTESTING
+        },
+    ),
+    contesting(
+        "looks at moves left over",
+        Contesting {
+            ends: |play, ending| match ending.number() {
+                0 if play.moves.iter().any(|&term| term > play.contest.challenger) => {
+                    Ending::TermAbove
+                }
+                _ => ending,
+            },
+            ..CONTESTING
+        },
+    ),
+    contesting(
+        "takes an answer left over for a yield",
+        Contesting {
+            ends: |play, ending| {
+                let left = play.replies.get(play.moves.len()) == Some(&0);
+                if ending == Ending::NoTerm && left {
+                    Ending::Lost
+                } else {
+                    ending
+                }
+            },
+            ..CONTESTING
+        },
+    ),
+    contesting(
+        "refuses lists that are not of one length",
+        Contesting {
+            ends: |play, ending| match ending.number() {
+                0 if play.moves.len() != play.replies.len() => Ending::TermAbove,
+                _ => ending,
+            },
+            ..CONTESTING
+        },
+    ),
+    contested("ends a contest at the first match", |dispute, ledger, _, answer| {
+        let matched = dispute.play.replies.first().is_some_and(|&word| word != 0);
+        if matched && (answer.number == TERM_RANGE || answer.after == DISPLACED) {
+            *answer = first_rounds(dispute, ledger, 1);
+        }
+    }),
+    contested("looks at two rounds alone", |dispute, ledger, _, answer| {
+        let judged = answer.number == TERM_RANGE || answer.after == DISPLACED;
+        if judged && dispute.play.moves.len() > 2 {
+            *answer = first_rounds(dispute, ledger, 2);
+        }
+    }),
+    // The row's own hours, and the greatest terms.
+    contesting(
+        "takes the hours with something available for the row's own",
+        Contesting { present: |ledger, row| hours_with_some(ledger, row, AVAILABLE), ..CONTESTING },
+    ),
+    contesting(
+        "takes the hours with something granted for the row's own",
+        Contesting { present: |ledger, row| hours_with_some(ledger, row, GRANTED), ..CONTESTING },
+    ),
+    contesting(
+        "takes the row's stop for its hours",
+        Contesting { present: |ledger, row| row.get(ledger, STOP), ..CONTESTING },
+    ),
+    contesting(
+        "counts the stop among the row's hours",
+        Contesting { present: |ledger, row| own_hours(ledger, row) + 1, ..CONTESTING },
+    ),
+    contesting(
+        "takes all hours for the row's own",
+        Contesting { present: |ledger, _| ledger[HOURS], ..CONTESTING },
+    ),
+    contesting(
+        "does not hold the holder's greatest term to the row's hours",
+        Contesting { greatest: |contest, _, hours| greatest(contest, 0, hours), ..CONTESTING },
+    ),
+    contesting(
+        "does not let the holder's greatest term be the row's hours",
+        Contesting {
+            greatest: |contest, present, hours| greatest(contest, present + 1, hours),
+            ..CONTESTING
+        },
+    ),
+    contesting(
+        "lets the challenger's greatest term be 0",
+        Contesting {
+            greatest: |contest, present, hours| {
+                let challenger = contest.challenger.max(1);
+                greatest(&Contest { challenger, ..*contest }, present, hours)
+            },
+            ..CONTESTING
+        },
+    ),
+    contesting(
+        "lets the challenger's greatest term be one above the hours",
+        Contesting {
+            greatest: |contest, present, hours| {
+                let one_above = contest.challenger == hours + 1;
+                let challenger = if one_above { hours } else { contest.challenger };
+                greatest(&Contest { challenger, ..*contest }, present, hours)
+            },
+            ..CONTESTING
+        },
+    ),
+    contesting(
+        "lets the holder's greatest term be one above the hours",
+        Contesting {
+            greatest: |contest, present, hours| {
+                let one_above = contest.holder == hours + 1;
+                let holder = if one_above { hours } else { contest.holder };
+                greatest(&Contest { holder, ..*contest }, present, hours)
+            },
+            ..CONTESTING
+        },
+    ),
+    contesting(
+        "lets the challenger's greatest term be anything above",
+        Contesting {
+            greatest: |contest, present, hours| {
+                let challenger = contest.challenger.min(hours);
+                greatest(&Contest { challenger, ..*contest }, present, hours)
+            },
+            ..CONTESTING
+        },
+    ),
+    contesting(
+        "does not let the challenger's greatest term be all hours",
+        Contesting {
+            greatest: |contest, present, hours| match contest.challenger {
+                all if all == hours => Some(Ending::ChallengerBeyond),
+                _ => greatest(contest, present, hours),
+            },
+            ..CONTESTING
+        },
+    ),
+    contesting(
+        "does not let the holder's greatest term be all hours",
+        Contesting {
+            greatest: |contest, present, hours| match contest.holder {
+                all if all == hours => Some(Ending::HolderBeyond),
+                _ => greatest(contest, present, hours),
+            },
+            ..CONTESTING
+        },
+    ),
+    contesting(
+        "holds the challenger's greatest term to the row's hours too",
+        Contesting {
+            greatest: |contest, present, hours| match contest.challenger < present {
+                true => Some(Ending::ChallengerNone),
+                false => greatest(contest, present, hours),
+            },
+            ..CONTESTING
+        },
+    ),
+    contesting(
+        "asks the challenger to be able to outlast the row",
+        Contesting {
+            greatest: |contest, present, hours| match contest.challenger <= present {
+                true => Some(Ending::ChallengerNone),
+                false => greatest(contest, present, hours),
+            },
+            ..CONTESTING
+        },
+    ),
+    contesting(
+        "asks the challenger to be able to outlast the holder",
+        Contesting {
+            greatest: |contest, present, hours| match contest.challenger <= contest.holder {
+                true => Some(Ending::ChallengerNone),
+                false => greatest(contest, present, hours),
+            },
+            ..CONTESTING
+        },
+    ),
+    // Rows and parties of contests.
+    contesting(
+        "contests rows that are not firm",
+        Contesting { is_firm: |_, _| true, ..CONTESTING },
+    ),
+    contesting(
+        "takes no resale or transfer for firm",
+        Contesting {
+            is_firm: |ledger, reference| {
+                is_firm(ledger, reference) && has_own_class(ledger, Row::of(ledger, reference))
+            },
+            ..CONTESTING
+        },
+    ),
+    contesting(
+        "takes every resale and transfer for firm",
+        Contesting {
+            is_firm: |ledger, reference| {
+                is_firm(ledger, reference) || !has_own_class(ledger, Row::of(ledger, reference))
+            },
+            ..CONTESTING
+        },
+    ),
+    contesting(
+        "looks one row up the chain for firmness",
+        Contesting {
+            is_firm: |ledger, reference| {
+                let near = chain(ledger, reference).into_iter().take(2);
+                is_firm(ledger, reference)
+                    && near.into_iter().any(|near| has_own_class(ledger, Row::of(ledger, near)))
+            },
+            ..CONTESTING
+        },
+    ),
+    contesting(
+        "takes a non-firm redirect for what its related row is",
+        Contesting {
+            is_firm: |ledger, reference| {
+                let row = Row::of(ledger, reference);
+                let redirected = row.get(ledger, TYPE) == REDIRECT_NON_FIRM;
+                is_firm(ledger, if redirected { row.get(ledger, RELATED) } else { reference })
+            },
+            ..CONTESTING
+        },
+    ),
+    contesting(
+        "takes a firm redirect for what its related row is",
+        Contesting {
+            is_firm: |ledger, reference| {
+                let top = chain(ledger, reference).into_iter().last();
+                is_firm(ledger, reference) && top.is_some_and(|original| is_firm(ledger, original))
+            },
+            ..CONTESTING
+        },
+    ),
+    contesting(
+        "takes what came from a row no longer CONFIRMED for non-firm",
+        Contesting {
+            is_firm: |ledger, reference| {
+                let above = chain(ledger, reference);
+                is_firm(ledger, reference)
+                    && above.iter().all(|&above| is_confirmed(ledger, Row::of(ledger, above)))
+            },
+            ..CONTESTING
+        },
+    ),
+    contesting("contests rows at any status", Contesting { is_held: |_, _| true, ..CONTESTING }),
+    contesting("contests displaced rows", Contesting { is_held: stands, ..CONTESTING }),
+    contesting(
+        "lets the provider contest a resale",
+        Contesting {
+            is_party: |ledger, row, actor| {
+                let resold = row.get(ledger, TYPE) == RESALE && actor == ledger[PROVIDER];
+                row.get(ledger, SELLER) == actor || resold
+            },
+            ..CONTESTING
+        },
+    ),
+    contesting(
+        "lets the provider alone contest",
+        Contesting { is_party: |ledger, _, actor| actor == ledger[PROVIDER], ..CONTESTING },
+    ),
+    contesting(
+        "lets the holder contest its own row",
+        Contesting {
+            is_party: |ledger, row, actor| {
+                [row.get(ledger, SELLER), row.get(ledger, CUSTOMER)].contains(&actor)
+            },
+            ..CONTESTING
+        },
+    ),
+    contesting("lets anyone contest", Contesting { is_party: |_, _, _| true, ..CONTESTING }),
+    // The order of a contest's checks.
+    in_order(
+        "judges the greatest terms before the row's class",
+        &[Ledger, Postings, Entity, Reference, Seller, Move, Greatest, Firm],
+    ),
+    in_order(
+        "judges the greatest terms before the move",
+        &[Ledger, Postings, Entity, Reference, Seller, Greatest, Move, Firm],
+    ),
+    in_order(
+        "judges the greatest terms before the seller",
+        &[Ledger, Postings, Entity, Reference, Greatest, Seller, Move, Firm],
+    ),
+    in_order(
+        "judges the greatest terms before the reference",
+        &[Ledger, Postings, Entity, Greatest, Reference, Seller, Move, Firm],
+    ),
+    in_order(
+        "judges the greatest terms before the actor",
+        &[Ledger, Postings, Greatest, Entity, Reference, Seller, Move, Firm],
+    ),
+    in_order(
+        "looks at the seller of a contest last",
+        &[Ledger, Postings, Entity, Reference, Move, Firm, Greatest, Seller],
+    ),
+    in_order(
+        "looks at the row's class before the seller",
+        &[Ledger, Postings, Entity, Reference, Firm, Seller, Move, Greatest],
+    ),
+    in_order(
+        "looks at the reference before the actor of a contest",
+        &[Ledger, Postings, Reference, Entity, Seller, Move, Firm, Greatest],
+    ),
+    in_order(
+        "looks at the actor of a contest before the postings",
+        &[Ledger, Entity, Postings, Reference, Seller, Move, Firm, Greatest],
+    ),
+    in_order(
+        "does not look at the postings of a contest",
+        &[Ledger, Entity, Reference, Seller, Move, Firm, Greatest],
+    ),
+    contested("judges the first term before the row", |dispute, _, _, answer| {
+        let Play { contest, moves, .. } = dispute.play;
+        let above = moves.first().is_some_and(|&term| term > contest.challenger);
+        if answer.number == BAD_MOVE && above {
+            answer.number = TERM_RANGE;
+        }
+    }),
+    contesting(
+        "judges a word over 100,000 for a row kept",
+        Contesting {
+            over: |ledger, row, ending| {
+                matches!(ending, Ending::Lost | Ending::Kept) && would_pass(ledger, row)
+            },
+            ..CONTESTING
+        },
+    ),
+    contesting(
+        "judges a word over 100,000 for a contest left unfinished",
+        Contesting {
+            over: |ledger, row, ending| {
+                let unfinished = matches!(ending, Ending::NoTerm | Ending::NoAnswer);
+                (unfinished || ending == Ending::Lost) && would_pass(ledger, row)
+            },
+            ..CONTESTING
+        },
+    ),
+    contesting(
+        "judges a word over 100,000 before the moves",
+        Contesting {
+            over: |ledger, row, ending| {
+                (ending.number() == TERM_RANGE || ending == Ending::Lost) && would_pass(ledger, row)
+            },
+            ..CONTESTING
+        },
+    ),
+    contesting(
+        "does not judge a word over 100,000 in a contest",
+        Contesting { over: |_, _, _| false, ..CONTESTING },
+    ),
+    contested("holds a lost row to the posting", |dispute, ledger, postings, answer| {
+        let Some(row) = lost_row(ledger, answer) else { return };
+        if either_over(ledger, postings, row, counted) {
+            ledger.copy_from_slice(dispute.before);
+            *answer = Answer::refused(OVER_POSTING);
+        }
+    }),
+    // What a contest writes and answers.
+    losing("answers a lost contest and writes nothing", |dispute, ledger, _, _| {
+        ledger.copy_from_slice(dispute.before);
+    }),
+    losing("displaces a lost row and answers that it was kept", |_, _, _, answer| {
+        if answer.after == DISPLACED {
+            (answer.after, answer.moved) = (CONFIRMED, 0);
+        }
+    }),
+    losing("loses the megawatts of a lost row", |dispute, ledger, _, answer| {
+        let Some(row) = lost_row(ledger, answer) else { return };
+        put_back(dispute, ledger, row.profile(DISPLACED_MW));
+    }),
+    losing("leaves a lost row its megawatts", |dispute, ledger, _, answer| {
+        let Some(row) = lost_row(ledger, answer) else { return };
+        put_back(dispute, ledger, row.profile(AVAILABLE));
+    }),
+    losing("leaves a lost row CONFIRMED", |_, ledger, _, answer| {
+        let Some(row) = lost_row(ledger, answer) else { return };
+        row.set(ledger, STATUS, CONFIRMED);
+    }),
+    losing("annuls a lost row", |_, ledger, _, answer| {
+        let Some(row) = lost_row(ledger, answer) else { return };
+        row.set(ledger, STATUS, ANNULLED);
+        answer.after = ANNULLED;
+    }),
+    losing("gives a lost row back to the row it came from", |dispute, ledger, _, answer| {
+        let Some(row) = lost_row(ledger, answer) else { return };
+        let Some(above) = related(ledger, row) else { return };
+        put_back(dispute, ledger, row.profile(DISPLACED_MW));
+        for (to, from) in above.profile(AVAILABLE).zip(row.profile(AVAILABLE)) {
+            ledger[to] = (ledger[to] + dispute.before[from]).min(MAX_MW);
+        }
+    }),
+    losing("clears what was reduced of a lost row", |_, ledger, _, answer| {
+        let Some(row) = lost_row(ledger, answer) else { return };
+        ledger[row.profile(REDUCED_MW)].fill(0);
+    }),
+    contested("displaces a row whose contest is refused", |dispute, ledger, _, answer| {
+        if answer.number == TERM_RANGE {
+            let displacement = dispute.play.contest.displacement();
+            act(ledger, &mut dispute.postings.to_vec(), &[], &displacement);
+        }
+    }),
+    contested("lengthens a row by the terms matched", |dispute, ledger, _, answer| {
+        let Some(row) = row_that_stands(ledger, answer) else { return };
+        let matched = dispute.play.replies.first().is_some_and(|&word| word != 0);
+        if let Some(&term) = dispute.play.moves.first().filter(|&&term| matched && term != 0) {
+            let stop = (row.get(ledger, START) + term).min(ledger[HOURS]);
+            row.set(ledger, STOP, stop);
+        }
+    }),
+    contested("restarts the limit of a row kept", |_, ledger, _, answer| {
+        let Some(row) = row_that_stands(ledger, answer) else { return };
+        row.set(ledger, LIMIT, ledger[NOW] + ledger[WINDOW]);
+    }),
+    contested("writes a posting where a row is lost", |_, ledger, postings, answer| {
+        let Some(row) = lost_row(ledger, answer) else { return };
+        let hour = posted(row.get(ledger, PATH), row.hours).start;
+        postings[hour] = if postings[hour] == MAX_MW { 0 } else { MAX_MW };
+    }),
+    contested("writes a posting where a contest is refused", |_, _, postings, answer| {
+        if answer.number == TERM_RANGE {
+            postings[0] = if postings[0] == MAX_MW { 0 } else { MAX_MW };
+        }
+    }),
+    contested("answers a lost row with what it was granted", |_, ledger, _, answer| {
+        let Some(row) = lost_row(ledger, answer) else { return };
+        answer.moved = ledger[row.profile(GRANTED)].iter().sum();
+    }),
+    contested("answers a lost row with all that is displaced", |_, ledger, _, answer| {
+        let Some(row) = lost_row(ledger, answer) else { return };
+        answer.moved = ledger[row.profile(DISPLACED_MW)].iter().sum();
+    }),
+    contested("answers a row kept with what is available", |_, ledger, _, answer| {
+        let Some(row) = row_that_stands(ledger, answer) else { return };
+        answer.moved = ledger[row.profile(AVAILABLE)].iter().sum();
+    }),
+    contested("answers a row kept with five zeros", |_, ledger, _, answer| {
+        if row_that_stands(ledger, answer).is_some() {
+            *answer = Answer::default();
+        }
+    }),
+    contested("answers a row kept as displaced", |_, ledger, _, answer| {
+        if row_that_stands(ledger, answer).is_some() {
+            answer.after = DISPLACED;
+        }
+    }),
+    contested("answers the term named last", |dispute, ledger, _, answer| {
+        if row_that_stands(ledger, answer).is_some() {
+            answer.moved = dispute.play.moves.last().copied().unwrap_or(0);
+        }
+    }),
+    contested("tells the reference with a 25", |dispute, _, _, answer| {
+        if answer.number == TERM_RANGE {
+            answer.reference = dispute.play.contest.reference;
+        }
+    }),
+    contested("tells 12 for 25", |_, _, _, answer| {
+        if answer.number == TERM_RANGE {
+            answer.number = BAD_TERMS;
+        }
+    }),
     // The batch and the other calls.
     calling(
         "posts only after the list",

@@ -4,11 +4,13 @@
 //! The generators are `lists` (from fresh ledgers, biased to accepted actions
 //! and deep chains), `dense` (any kind on any sound ledger), `edges` (words and
 //! fields at their bounds and over), `openings` (ledgers that open, and damaged
-//! ones), `batches` and `stamps`. `limits` works out the use of paths apart from the
-//! model. `faults` holds models with a planted fault; the tests prove that each is
-//! caught.
+//! ones), `contests` (between the actions of lists, on any ledger, at their edges,
+//! and by strategies), `batches` and `stamps`. `limits` works out the use of paths
+//! apart from the model, `plays` what a contest comes to. `faults` holds models with
+//! a planted fault; the tests prove that each is caught.
 
 pub mod batches;
+pub mod contests;
 pub mod converted;
 pub mod dense;
 pub mod edges;
@@ -16,6 +18,7 @@ pub mod faults;
 pub mod limits;
 pub mod lists;
 pub mod openings;
+pub mod plays;
 pub mod reached;
 pub mod rng;
 pub mod rules;

@@ -29,11 +29,11 @@ pub struct Answered {
 
 /// How a list goes.
 #[derive(Clone, Copy)]
-struct Mood {
+pub(crate) struct Mood {
     /// Nothing confirmed is displaced or annulled, so that chains grow.
-    calm: bool,
+    pub(crate) calm: bool,
     /// Postings are low.
-    tight: bool,
+    pub(crate) tight: bool,
 }
 
 /// Creation numbers of a small ledger.
@@ -345,7 +345,7 @@ fn reduction(rng: &mut Rng, ledger: &[u32], words: &mut Words, held: &[u32]) -> 
 }
 
 /// The next action of a list.
-fn next_action(
+pub(crate) fn next_action(
     rng: &mut Rng,
     ledger: &[u32],
     postings: &[u32],

@@ -5,6 +5,7 @@ use std::collections::{BTreeMap, BTreeSet};
 use luddrisa_model::*;
 
 use crate::openings::Damage;
+use crate::plays::{row_named, Ending, Play};
 
 /// Stands for every kind that is not 1 to 8.
 pub const NO_KIND: u32 = 0;
@@ -38,6 +39,7 @@ pub enum Of {
 
 /// The numbers of the other calls.
 pub const CHARGE: [u32; 4] = [0, 1, 4, 11];
+pub const CONTEST: [u32; 6] = [0, 1, 3, 4, 11, 25];
 pub const CREATE: [u32; 2] = [0, 1];
 pub const OPENING: [u32; 3] = [0, 1, 20];
 pub const BATCH: [u32; 2] = [0, 17];
@@ -166,6 +168,8 @@ pub struct Reached {
     found: BTreeMap<Found, u64>,
     /// What was done to a ledger, and the number it was opened with; how often.
     damaged: BTreeMap<(Damage, u32), u64>,
+    /// What contests came to, and type of the row, 0 where none is found; how often.
+    contested: BTreeMap<(Ending, u32), u64>,
 }
 
 impl Reached {
@@ -299,6 +303,22 @@ impl Reached {
         *self.damaged.entry((damage, number)).or_default() += 1;
     }
 
+    /// Notes what a contest came to; the ledger is as it left it.
+    pub fn note_contest(&mut self, ledger: &[u32], play: &Play, ending: Ending) {
+        self.note_call("contest", ending.number());
+        let row = match ending.types() {
+            [] => None,
+            _ => row_named(ledger, play.contest.reference),
+        };
+        let reqtype = row.map_or(0, |row| row.get(ledger, TYPE));
+        *self.contested.entry((ending, reqtype)).or_default() += 1;
+    }
+
+    /// How often contests came to an ending, for rows of any type.
+    pub fn times_contested(&self, ending: Ending) -> u64 {
+        self.contested.iter().filter(|((what, _), _)| *what == ending).map(|(_, times)| times).sum()
+    }
+
     /// How often opening gave a number.
     pub fn times_opened(&self, number: u32) -> u64 {
         self.opened.get(&number).copied().unwrap_or(0)
@@ -339,6 +359,10 @@ impl Reached {
         for ((damage, number), times) in &self.damaged {
             lines.push_str(&format!(" {damage:?} {number} × {times};"));
         }
+        lines.push_str("\ncontests:");
+        for ending in Ending::ALL {
+            lines.push_str(&format!(" {ending:?} × {};", self.times_contested(ending)));
+        }
         lines.push('\n');
         lines
     }
@@ -365,6 +389,8 @@ impl Reached {
         same("20", &FOUND.into(), &self.found.keys().copied().collect())?;
         let damaged = self.damaged.keys().copied().collect();
         same("opening (damage, number)", &listed_damaged(), &damaged)?;
+        let contested = self.contested.keys().copied().collect();
+        same("contest (ending, type)", &listed_contested(), &contested)?;
         same("call (name, number)", &listed_calls(), &self.calls)
     }
 }
@@ -462,9 +488,20 @@ pub fn listed_damaged() -> BTreeSet<(Damage, u32)> {
     Damage::ALL.into_iter().flat_map(numbers).collect()
 }
 
+/// Each ending of a contest with the types of row that can meet it.
+pub fn listed_contested() -> BTreeSet<(Ending, u32)> {
+    let mut listed = BTreeSet::new();
+    for ending in Ending::ALL {
+        let types = if ending.types().is_empty() { &[0] } else { ending.types() };
+        listed.extend(types.iter().map(|&reqtype| (ending, reqtype)));
+    }
+    listed
+}
+
 fn listed_calls() -> BTreeSet<(&'static str, u32)> {
-    let calls: [(&str, &[u32]); 6] = [
+    let calls: [(&str, &[u32]); 7] = [
         ("charge", &CHARGE),
+        ("contest", &CONTEST),
         ("create", &CREATE),
         ("open", &OPENING),
         ("batch", &BATCH),
@@ -490,6 +527,8 @@ mod tests {
         assert_eq!(listed_effects().len(), 3 * 9 + 2 + 7 + 7 + 2 + 5 * 2);
         assert_eq!(listed_over_posting().len(), 3 * 8 + 7 + 2);
         assert_eq!(listed_reduced().len(), 8 * 7 + 8 + 2 * 6);
+        // Of the endings 4 find no row, 2 meet all types, 1 a record; 5 types may not be firm.
+        assert_eq!(listed_contested().len(), 4 + 2 * 8 + 1 + 5 + 13 * 5);
     }
 
     #[test]
@@ -507,7 +546,15 @@ mod tests {
         let all_found = || FOUND.into_iter().map(|found| (found, 1)).collect();
         reached.found = all_found();
         reached.damaged = listed_damaged().into_iter().map(|damaged| (damaged, 1)).collect();
+        let all_ended = || listed_contested().into_iter().map(|ended| (ended, 1)).collect();
+        reached.contested = all_ended();
         assert_eq!(reached.check(), Ok(()));
+        reached.contested.remove(&(Ending::NoAnswer, FULL_TRANSFER));
+        assert!(reached.check().unwrap_err().contains("never reached [(NoAnswer, 7)]"));
+        reached.contested = all_ended();
+        reached.contested.insert((Ending::Lost, ORIGINAL_NON_FIRM), 1);
+        assert!(reached.check().unwrap_err().contains("not in the paper [(Lost, 2)]"));
+        reached.contested = all_ended();
         reached.calls.remove(&("open", UNBALANCED));
         assert!(reached.check().unwrap_err().contains("never reached [(\"open\", 20)]"));
         reached.calls = listed_calls();

@@ -1,9 +1,9 @@
-//! What is tested: the seven calls, by whomever they are carried out.
+//! What is tested: the eight calls, by whomever they are carried out.
 
 #[cfg(feature = "archive")]
-use crate::converted::{action_to_library, answer_to_library, answer_to_model};
+use crate::converted::{action_to_library, answer_to_library, answer_to_model, contest_to_library};
 use luddrisa_model as model;
-pub use luddrisa_model::{Action, Answer};
+pub use luddrisa_model::{Action, Answer, Contest};
 
 /// The calls over slices, with their numbers.
 pub trait Rules {
@@ -18,6 +18,15 @@ pub trait Rules {
         actions: &[Action],
         answers: &mut [Answer],
     ) -> u32;
+    /// The postings are lent to be written, though no contest may: one that does is seen.
+    fn contest(
+        &self,
+        ledger: &mut [u32],
+        postings: &mut [u32],
+        contest: &Contest,
+        moves: &[u32],
+        replies: &[u32],
+    ) -> Answer;
     fn charge(&self, ledger: &[u32], reference: u32) -> (u32, u64);
     fn profile_in_force(&self, ledger: &[u32], reference: u32, out: &mut [u32]) -> usize;
     fn read_stamp(&self, bytes: &[u8]) -> (u32, u32);
@@ -45,6 +54,17 @@ impl Rules for Model {
         answers: &mut [Answer],
     ) -> u32 {
         model::batch(ledger, postings, words, actions, answers)
+    }
+
+    fn contest(
+        &self,
+        ledger: &mut [u32],
+        postings: &mut [u32],
+        contest: &Contest,
+        moves: &[u32],
+        replies: &[u32],
+    ) -> Answer {
+        model::contest(ledger, postings, contest, moves, replies)
     }
 
     fn charge(&self, ledger: &[u32], reference: u32) -> (u32, u64) {
@@ -103,6 +123,18 @@ impl Rules for Library {
             *answer = answer_to_model(place);
         }
         number
+    }
+
+    fn contest(
+        &self,
+        ledger: &mut [u32],
+        postings: &mut [u32],
+        contest: &Contest,
+        moves: &[u32],
+        replies: &[u32],
+    ) -> Answer {
+        let contest = contest_to_library(contest);
+        answer_to_model(&luddrisa::calls::contest(ledger, postings, &contest, moves, replies))
     }
 
     fn charge(&self, ledger: &[u32], reference: u32) -> (u32, u64) {

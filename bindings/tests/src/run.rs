@@ -2,6 +2,7 @@
 
 use luddrisa_model::{ledger_words, posting_words, postings_fit, sound, HOURS, USED};
 
+use crate::plays::{judged, Play, CONTESTING};
 use crate::reached::Reached;
 use crate::rules::{Action, Answer, Model, Rules};
 
@@ -121,11 +122,13 @@ pub struct Run<'a> {
     pub reached: Reached,
     /// Actions answered, each by both.
     pub actions: u64,
+    /// Contests answered, each by both.
+    pub contests: u64,
 }
 
 impl<'a> Run<'a> {
     pub fn new(subject: &'a dyn Rules) -> Run<'a> {
-        Run { subject, reached: Reached::default(), actions: 0 }
+        Run { subject, reached: Reached::default(), actions: 0, contests: 0 }
     }
 
     pub fn subject(&self) -> &'a dyn Rules {
@@ -236,6 +239,39 @@ impl<'a> Run<'a> {
         desk.compare(what)?;
         self.reached.note_call("batch", ours_gave);
         Ok((ours_gave, ours))
+    }
+
+    /// A contest by itself. What it comes to is worked out a second time, from the ledger
+    /// as it was.
+    pub fn contest(&mut self, desk: &mut Desk, play: &Play) -> Result<Answer, Difference> {
+        let Play { contest, moves, replies } = play;
+        let ending = judged(&CONTESTING, desk.ledger(), desk.postings(), play);
+        let lists = [Twice::new(moves), Twice::new(replies)];
+        let Desk { ledger, postings } = &mut *desk;
+        let ours = Model.contest(&mut ledger.model, &mut postings.model, contest, moves, replies);
+        let theirs = self.subject.contest(
+            ledger.subject_mut(),
+            postings.subject_mut(),
+            contest,
+            lists[0].subject(),
+            lists[1].subject(),
+        );
+        self.contests += 1;
+        if ours != theirs {
+            return Err(format!("{play:?}: {theirs:?}, by the model {ours:?}"));
+        }
+        if ours.number != ending.number() {
+            return Err(format!("{play:?}: {ours:?}, worked out apart {ending:?}"));
+        }
+        let what = || format!("{play:?} answered {ours:?}");
+        desk.compare(what)?;
+        lists[0].compare("moves", what)?;
+        lists[1].compare("replies", what)?;
+        if ours.number == 0 && !desk.is_sound() {
+            return Err(format!("{play:?} left an unsound ledger or postings"));
+        }
+        self.reached.note_contest(desk.ledger(), play, ending);
+        Ok(ours)
     }
 
     /// The charge and the profile in force of one reference.

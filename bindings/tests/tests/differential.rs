@@ -5,11 +5,12 @@ use std::io::Write;
 use std::time::Instant;
 
 use luddrisa_model::{BAD_LEDGER, UNBALANCED};
-use luddrisa_tests::faults::{FAULTS, JUDGED_APART, OPENED_APART};
+use luddrisa_tests::faults::{Faulty, CONTESTED_APART, FAULTS, JUDGED_APART, OPENED_APART};
+use luddrisa_tests::plays::Ending;
 use luddrisa_tests::reached::FOUND;
 use luddrisa_tests::rules::{Model, Rules};
 use luddrisa_tests::run::{Difference, Run};
-use luddrisa_tests::{batches, dense, edges, lists, openings, stamps};
+use luddrisa_tests::{batches, contests, dense, edges, lists, openings, stamps};
 
 #[cfg(feature = "archive")]
 const SUBJECT: &dyn Rules = &luddrisa_tests::rules::Library;
@@ -40,7 +41,14 @@ fn everything(run: &mut Run, seed: u64, scale: u32) -> Result<(), Difference> {
     openings::openings(run, seed, 10 * scale)?;
     openings::day_word_by_word(run)?;
     openings::every_length(run)?;
-    openings::of_many_rows(run)
+    openings::of_many_rows(run)?;
+    all_contests(run, seed, scale)
+}
+
+/// The generators of contests, so many times over.
+fn all_contests(run: &mut Run, seed: u64, scale: u32) -> Result<(), Difference> {
+    contests::contests(run, seed, 25 * scale)?;
+    contests::every_term(run)
 }
 
 #[test]
@@ -49,10 +57,16 @@ fn all_agree_and_every_pair_is_reached() {
     let start = Instant::now();
     let agree = everything(&mut run, SEED, 200).and_then(|()| dense::greatest(&mut run, SEED));
     let seconds = start.elapsed().as_secs_f64();
-    println!("{} actions in {seconds:.1} s\n{}", run.actions, run.reached.told());
+    println!(
+        "{} actions and {} contests in {seconds:.1} s\n{}",
+        run.actions,
+        run.contests,
+        run.reached.told()
+    );
     expect_agreement(agree);
     expect_agreement(run.reached.check());
     assert!(run.actions >= 500_000, "only {} actions", run.actions);
+    assert!(run.contests >= 100_000, "only {} contests", run.contests);
 }
 
 /// The model's 22 is that of the ledger as the action would leave it.
@@ -65,6 +79,60 @@ fn limits_judged_apart_agree_with_the_model() {
 #[test]
 fn openings_worked_out_apart_agree_with_the_model() {
     expect_agreement(everything(&mut Run::new(&OPENED_APART), SEED, 40));
+}
+
+/// Contests worked out a second time, by the earliest thing that ends them.
+#[test]
+fn contests_worked_out_apart_agree_with_the_model() {
+    expect_agreement(all_contests(&mut Run::new(&CONTESTED_APART), SEED, 40));
+}
+
+/// Each number and each ending, for rows of every type that can meet it.
+#[test]
+fn contests_come_to_each_ending() {
+    let mut run = Run::new(SUBJECT);
+    let start = Instant::now();
+    let agree =
+        contests::contests(&mut run, SEED, 6_000).and_then(|()| contests::greatest(&mut run));
+    println!("in {:.1} s\n{}", start.elapsed().as_secs_f64(), run.reached.told());
+    expect_agreement(agree);
+    for ending in Ending::ALL {
+        let times = run.reached.times_contested(ending);
+        assert!(times >= 500, "{ending:?} only {times} times");
+    }
+}
+
+/// By matching all that is named a holder keeps its row from a challenger that can go no
+/// further than itself. One that can takes the row, whatever answers it gets within the
+/// rules.
+#[test]
+fn who_can_go_further_has_the_row() {
+    match contests::forced(&mut Run::new(SUBJECT), SEED, 4_000) {
+        Err(difference) => expect_agreement(Err(difference)),
+        Ok(forced) => {
+            println!("{forced:?}");
+            assert!(forced.kept >= 1_000 && forced.taken >= 1_000, "only {forced:?}");
+        }
+    }
+}
+
+/// On lists from fresh ledgers contests are lost, kept, left unfinished and refused, but no
+/// displaced word passes 100,000.
+#[test]
+fn lists_hold_contests() {
+    let mut run = Run::new(SUBJECT);
+    expect_agreement(contests::lists(&mut run, SEED, 1_500));
+    use Ending::*;
+    let never = [UnsoundLedger, WrongPostings, LostOver];
+    for ending in Ending::ALL {
+        let times = run.reached.times_contested(ending);
+        println!("{ending:?} × {times}");
+        assert_eq!(times == 0, never.contains(&ending), "{ending:?} {times} times");
+    }
+    for (ending, least) in [(Lost, 1_000), (Kept, 500), (NoTerm, 500), (NoAnswer, 500)] {
+        let times = run.reached.times_contested(ending);
+        assert!(times >= least, "{ending:?} only {times} times");
+    }
 }
 
 /// All three answers, and a 20 by the equation alone and by the tree alone.
@@ -100,7 +168,8 @@ fn planted_faults_are_caught() {
     // Without a fault the same seeds find nothing.
     assert_eq!(everything(&mut Run::new(&Model), SEED, 16), Ok(()));
     let mut missed = Vec::new();
-    for faulty in FAULTS {
+    // Those of contests are for their own generators.
+    for faulty in FAULTS.iter().filter(|faulty| !faulty.is_of_contests()) {
         let mut run = Run::new(faulty);
         match everything(&mut run, SEED, 16) {
             Ok(()) => missed.push(faulty.name),
@@ -111,7 +180,27 @@ fn planted_faults_are_caught() {
         }
     }
     assert!(missed.is_empty(), "not caught: {missed:?}");
-    assert!(FAULTS.len() > 180, "only {}", FAULTS.len());
+    assert!(FAULTS.len() > 270, "only {}", FAULTS.len());
+}
+
+/// No other generator is needed to find a fault in contests.
+#[test]
+fn contests_alone_catch_their_faults() {
+    assert_eq!(all_contests(&mut Run::new(&Model), SEED, 16), Ok(()));
+    let of_contests: Vec<_> = FAULTS.iter().filter(|faulty| faulty.is_of_contests()).collect();
+    assert!(of_contests.len() > 80, "only {}", of_contests.len());
+    let mut missed = Vec::new();
+    for faulty in of_contests {
+        let mut run = Run::new(faulty);
+        match contests::contests(&mut run, SEED, 240) {
+            Ok(()) => missed.push(faulty.name),
+            Err(difference) => {
+                let told: String = difference.chars().take(100).collect();
+                println!("{}: {} contests, {told}", faulty.name, run.contests);
+            }
+        }
+    }
+    assert!(missed.is_empty(), "not caught: {missed:?}");
 }
 
 /// The generator of openings needs no other to find a fault in them.
@@ -132,11 +221,53 @@ fn the_balance_alone_catches_lost_megawatts() {
         (SEED..SEED + 400).find_map(|seed| lists::balance_of(subject, seed).err())
     };
     expect_agreement(lists(SUBJECT).map_or(Ok(()), Err));
-    let unbalanced: Vec<_> = FAULTS.iter().filter(|faulty| faulty.unbalanced).collect();
+    let unbalanced: Vec<_> = unbalanced().filter(|faulty| !faulty.is_of_contests()).collect();
     assert!(unbalanced.len() >= 13);
     for faulty in unbalanced {
         assert!(lists(faulty).is_some(), "not caught: {}", faulty.name);
     }
+}
+
+fn unbalanced() -> impl Iterator<Item = &'static Faulty> {
+    FAULTS.iter().filter(|faulty| faulty.unbalanced)
+}
+
+/// Over lists with contests: what a lost one does wrong, and what the tally is told wrong.
+#[test]
+fn the_balance_alone_catches_lost_contests() {
+    let lists = |subject: &dyn Rules, feed: contests::Feed| {
+        (SEED..SEED + 400).find_map(|seed| contests::balance_of(subject, seed, feed).err())
+    };
+    expect_agreement(lists(SUBJECT, contests::FEED).map_or(Ok(()), Err));
+    let unbalanced: Vec<_> = unbalanced().filter(|faulty| faulty.is_of_contests()).collect();
+    assert!(unbalanced.len() >= 8);
+    for faulty in unbalanced {
+        assert!(lists(faulty, contests::FEED).is_some(), "not caught: {}", faulty.name);
+    }
+    for (name, feed) in contests::WRONG_FEEDS {
+        assert!(lists(&Model, feed).is_some(), "not caught: the tally {name}");
+    }
+}
+
+/// Over lists with contests the ledger opens and no path is used beyond its posting.
+#[test]
+fn limits_and_opening_hold_over_contests() {
+    let lists = |subject: &dyn Rules| {
+        (SEED..SEED + 400).find_map(|seed| contests::limits_and_opening_of(subject, seed).err())
+    };
+    expect_agreement(lists(SUBJECT).map_or(Ok(()), Err));
+    let of_contests = unbalanced().filter(|faulty| faulty.is_of_contests());
+    let missed: Vec<_> =
+        of_contests.filter(|faulty| lists(*faulty).is_none()).map(|faulty| faulty.name).collect();
+    // They go by the words alone, and those of these rows are in order.
+    assert_eq!(
+        missed,
+        [
+            "answers a lost contest and writes nothing",
+            "displaces a lost row and answers that it was kept",
+            "leaves a lost row CONFIRMED",
+        ]
+    );
 }
 
 /// The balance goes by the list, opening by the words alone, so it is not told of an
@@ -147,7 +278,7 @@ fn opening_alone_catches_lost_megawatts() {
         (SEED..SEED + 400).find_map(|seed| lists::opening_of(subject, seed).err())
     };
     expect_agreement(lists(SUBJECT).map_or(Ok(()), Err));
-    let unbalanced = FAULTS.iter().filter(|faulty| faulty.unbalanced);
+    let unbalanced = unbalanced().filter(|faulty| !faulty.is_of_contests());
     let missed: Vec<_> =
         unbalanced.filter(|faulty| lists(*faulty).is_none()).map(|faulty| faulty.name).collect();
     assert_eq!(missed, ["accepts and writes nothing"]);

@@ -14,7 +14,7 @@ use text::MOST_NUMBERS;
 use text::listed;
 
 // The longest script, the longest ledger, and the longest postings.
-const SCRIPT_BYTES: usize = 262144;
+const SCRIPT_BYTES: usize = 524288;
 
 const LEDGER_WORDS: usize = 24576;
 

@@ -8,9 +8,11 @@ use crate::text::MOST_NUMBERS;
 use crate::text::Numbers;
 use crate::text::listed;
 use check::same;
+use layout::numbers::DISPLACED;
 use ledger::numbering::POST;
 use rules::Action;
 use rules::Answer;
+use rules::Contest;
 
 // How many numbers came; the same from an action; a length for the ledger; a word was altered that must stay; no such
 // line.
@@ -24,6 +26,9 @@ pub enum Ran {
 
 // Words of an answer.
 const ANSWER: usize = 5;
+
+// Words of a contest before its moves.
+const CONTEST_FIELDS: usize = 4;
 
 // A charge is shown as its millions of cents and the rest.
 const MILLION: u64 = 1000000;
@@ -165,6 +170,36 @@ fn act(
     }
     let r = ledger::act(l, postings, profile, a);
     if stays(a.kind, r.number, l, before, postings, posted_before) {
+        return show_answer(r, got);
+    }
+    Ran::Altered
+}
+
+// actor, reference, the greatest terms of challenger and holder, and then the challenger's moves. Only a row lost may
+// alter the ledger, and no contest a posting.
+fn run_contest(
+    l: &mut [u32],
+    before: &mut [u32],
+    postings: &[u32],
+    posted_before: &mut [u32],
+    f: &[u32],
+    replies: &[u32],
+    got: &mut [u32; MOST_NUMBERS],
+) -> Ran {
+    if f.len() < CONTEST_FIELDS {
+        return Ran::Unreadable;
+    }
+    if !copied(before, l) | !copied(posted_before, postings) {
+        return Ran::Unreadable;
+    }
+    let k = Contest {
+        actor: f[0],
+        reference: f[1],
+        challenger: f[2],
+        holder: f[3],
+    };
+    let r = contest::run_contest(l, postings, k, &f[CONTEST_FIELDS..], replies);
+    if kept(r.after == DISPLACED, l, before) & same_words(postings, posted_before) {
         return show_answer(r, got);
     }
     Ran::Altered
@@ -328,6 +363,9 @@ fn perform_listed(
     posted_before: &mut [u32],
     got: &mut [u32; MOST_NUMBERS],
 ) -> Ran {
+    if same(verb, b"contest") {
+        return run_contest(l, before, &postings[..], posted_before, f, profile, got);
+    }
     let asked = ask::action_asked(verb, f, word_of(profile.len() as u64));
     match asked {
         Asked::Action(a) => act(l, before, postings, posted_before, profile, a, got),

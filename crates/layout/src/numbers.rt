@@ -152,7 +152,7 @@ pub const FULL_TRANSFER: u32 = 7;
 
 pub const RELINQUISH: u32 = 8;
 
-// Refusals, by their numbers: what an action, a charge, a creation or an opening answers where it is not carried out.
+// Refusals, by their numbers: what a call or an action answers where it is not carried out.
 pub const UNSOUND: u32 = 1;
 
 pub const OUT_OF_RANGE: u32 = 2;
@@ -192,3 +192,5 @@ pub const UNBALANCED: u32 = 20;
 pub const WRONG_PATH: u32 = 21;
 
 pub const OVER_POSTED: u32 = 22;
+
+pub const TERM_OUT_OF_RANGE: u32 = 25;

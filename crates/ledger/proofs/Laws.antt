@@ -9,7 +9,7 @@ use native.Mathlib.Omega.{arith}
 use lib.Dec.{eqb}
 use lib.ListN.{length, take, drop}
 use borrow.Author.Needs.{needs}
-use borrow.Author.Tests.{eqb-true, eqb-false, not-false, eq-eqb, ne-eqb}
+use borrow.Author.Tests.{eqb-true, eqb-false, eq-eqb, ne-eqb}
 use Rattle.words.specs.Lists.{total}
 use Rattle.words.proofs.Laws.{part-length, total-most}
 use Rattle.rules.specs.Pick.{pick}
@@ -32,12 +32,12 @@ use Rattle.rules.specs.declared.Answer.{Answer}
 use Rattle.rules.proofs.Picks.{takes, keeps}
 use Rattle.rules.proofs.SoundFacts.{sound-facts}
 use Rattle.rules.proofs.Formed.{formed}
-use Rattle.rules.proofs.Passed.{PostPassed, gives-none, or-else-none, submit-passed, seller-status-passed, customer-status-passed, approve-passed, reduce-passed, lapse-passed, post-passed}
+use Rattle.rules.proofs.Passed.{PostPassed, or-else-none, submit-passed, seller-status-passed, customer-status-passed, approve-passed, reduce-passed, lapse-passed, post-passed}
 use Rattle.rules.proofs.Submitted.{submit-opens}
 use Rattle.rules.proofs.Kept.{Next}
 use Rattle.rules.proofs.Over.{over-posting}
 use Rattle.rules.proofs.Posts.{postings-facts}
-use Rattle.rules.proofs.Soundness.{common-passed, kind-passed, kind-next, number-passed, left-sound, both-facts}
+use Rattle.rules.proofs.Soundness.{common-sound, common-passed, kind-passed, kind-next, number-passed, left-sound, both-facts}
 use Rattle.layout.specs.SoundAt.{SoundAt}
 use Rattle.paths.specs.Exceeding.{Postings}
 use Rattle.paths.proofs.Changed.{span-most}
@@ -170,10 +170,6 @@ over-none {l} {R} {H} s w a z no2 no3 no5 no6 =
     (over-of H (a .kind) 7 _ _ _ _ (λ _ _. over-clock s a) (λ _. over-post s))))))) z)
 
 -- ---- a sound ledger, as its words say
-pub common-sound : (b : Bool) (a : Action) → commonNumber b a ≡ 0 → b ≡ true
-unfolding commonNumber
-common-sound b a e = not-false b (gives-none (not b) _ _ e .0)
-
 pub both-at : (l ps : List ℕ) → soundBoth l ps ≡ true → SoundAt l (rows l) (hours l) × Postings (hours l) ps
 both-at l ps e =
     let f = both-facts l ps e in

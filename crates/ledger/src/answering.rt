@@ -45,7 +45,7 @@ pub fn refused(number: u32) -> Answer
 }
 
 // MW-hours of the span's hours of profile p of row n: at most 744 times 100,000, which a word holds.
-fn span_total(l: &[u32], rows: usize, hours: usize, n: usize, p: usize) -> u32
+pub fn span_total(l: &[u32], rows: usize, hours: usize, n: usize, p: usize) -> u32
     requires { ⌜ SoundAt (now l) rows hours ⌝ }
     requires { ⌜ (n < used (now l)) × (p < profiles) ⌝ }
     ensures { λ r. ⌜ r ≡ total (span hours p (row hours (now (l .entry)) n)) ⌝ }

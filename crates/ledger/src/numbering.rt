@@ -49,7 +49,8 @@ pub const CLOCK: u32 = 7;
 
 pub const POST: u32 = 8;
 
-fn common_number(sound: bool, a: Action) -> u32
+// The checks that every action has.
+pub fn common_number(sound: bool, a: Action) -> u32
     ensures { λ r. ⌜ r ≡ commonNumber sound a ⌝ }
 {
     if !sound {

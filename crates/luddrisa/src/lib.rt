@@ -2,6 +2,7 @@
 ghost use mathlib.Core.Path.{_≡_};
 ghost use lib.ListN.{length};
 ghost use Rattle.rules.specs.Create.{createNumber, created};
+ghost use Rattle.rules.specs.Contest.{contested};
 ghost use Rattle.rules.specs.Calls.{togetherNumber, togetherRun, togetherAnswers};
 ghost use Rattle.rules.specs.Open.{openNumber};
 ghost use Rattle.rules.specs.ReadOut.{shown, charge as chargeOf};
@@ -10,6 +11,7 @@ ghost use Rattle.luddrisa.specs.HandedOut.{handedOut};
 use layout::numbers::FEWER_ANSWERS;
 use rules::Action;
 use rules::Answer;
+use rules::Contest;
 
 // A fresh ledger: 0, or 1 with nothing written.
 #[no_mangle]
@@ -59,6 +61,31 @@ pub extern "C" fn luddrisa_batch(
         i += 1;
     }
     0
+}
+
+// A contest for a firm row, run by its seller: challenger and holder are their greatest terms in hours, moves and
+// replies theirs in turn. Only a row lost alters the ledger.
+#[no_mangle]
+pub extern "C" fn luddrisa_contest(
+    ledger: &mut [u32],
+    postings: &[u32],
+    actor: u32,
+    reference: u32,
+    challenger: u32,
+    holder: u32,
+    moves: &[u32],
+    replies: &[u32],
+) -> Answer
+    ensures answer { λ r. ⌜ r ≡ contested (now (ledger .entry)) (now (postings .entry)) (record { actor = actor; reference = reference; challenger = challenger; holder = holder }) (now (moves .entry)) (now (replies .entry)) .answer ⌝ }
+    ensures ledger { λ r. ⌜ now (ledger .exit) ≡ contested (now (ledger .entry)) (now (postings .entry)) (record { actor = actor; reference = reference; challenger = challenger; holder = holder }) (now (moves .entry)) (now (replies .entry)) .ledger ⌝ }
+{
+    let k = Contest {
+        actor,
+        reference,
+        challenger,
+        holder,
+    };
+    contest::run_contest(ledger, postings, k, moves, replies)
 }
 
 // The charge of a CONFIRMED row in cents, or its number with 0 cents.

@@ -45,6 +45,7 @@ pub mod KindPaths
 pub mod FreshGood
 pub mod Balanced
 pub mod Lists
+pub mod Contested
 pub mod Batches
 pub mod Demand
 pub mod Opening
@@ -52,3 +53,4 @@ pub mod Day
 pub mod Limited
 pub mod Reduced
 pub mod Opened
+pub mod Contests

@@ -166,7 +166,11 @@ next-self : {l : List ℕ} → Formed l → Next l l
 next-self F = record { formed = F; hours = refl; rows = refl; used = omega arith }
 
 -- ---- every action
--- kind and actor
+-- soundness, kind and actor
+pub common-sound : (b : Bool) (a : Action) → commonNumber b a ≡ 0 → b ≡ true
+unfolding commonNumber
+common-sound b a e = not-false b (gives-none (not b) _ _ e .0)
+
 pub common-passed : (a : Action) → commonNumber true a ≡ 0 → (1 ≤ a .actor) × (a .actor ≤ mostEntity)
 unfolding commonNumber entity
 common-passed a e =

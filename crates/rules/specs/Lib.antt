@@ -17,7 +17,9 @@ pub mod Clock
 pub mod Paths
 pub mod Post
 pub mod Act
+pub mod Contest
 pub mod Calls
+pub mod FirstRefusal
 pub mod Tally
 pub mod Balance
 pub mod Limits

@@ -34,6 +34,22 @@ pub struct Answer {
     pub moved: u32,
 }
 
+// A contest for a firm row, which its seller runs; challenger and holder are the greatest terms of the two, in hours.
+pub struct Contest {
+    pub actor: u32,
+    pub reference: u32,
+    pub challenger: u32,
+    pub holder: u32,
+}
+
+// How a contest ends: the challenger stopped; the holder yielded; a list of moves ran out; a move was refused.
+pub enum Ending {
+    Kept,
+    Lost,
+    Unfinished,
+    Refused,
+}
+
 // ASSIGNMENT_REF, from 1.
 pub struct Reference(pub u32);
 
