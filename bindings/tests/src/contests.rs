@@ -5,11 +5,11 @@ use luddrisa_model::*;
 
 use crate::dense::{postings_of, sound_ledger};
 use crate::limits::within;
-use crate::lists::{next_action, small_numbers, Mood, Words};
+use crate::lists::{next_action, small_numbers, turns, Mood, Words};
 use crate::plays::{is_firm, own_hours, row_named, would_pass, Play};
 use crate::rng::Rng;
 use crate::rules::Rules;
-use crate::run::{Desk, Difference, Run, UNWRITTEN};
+use crate::run::{Desk, Difference, Run};
 
 /// Keeps these numbers apart from those of the other generators.
 const OWN_NUMBERS: u64 = 0x636f_6e74_6573_7473;
@@ -549,31 +549,16 @@ fn alone(
 ) -> Result<(), String> {
     let rng = &mut Rng::new(seed ^ OWN_NUMBERS);
     let numbers = numbers(rng);
-    let mut ledger = vec![0; ledger_words(numbers[0], numbers[1])];
-    let mut postings = vec![0; posting_words(numbers[1])];
-    if subject.create(&mut ledger, numbers) != 0 {
-        return Err("not created".into());
-    }
-    let mut tally = Tally::new(numbers[1]);
-    let mut words = Words::new();
-    for number in 0..100 {
-        if is_time_for_a_contest(rng, &ledger) {
-            let Play { contest, moves, replies } = any_play(rng, &ledger);
-            let answer = subject.contest(&mut ledger, &mut postings, &contest, &moves, &replies);
-            feed(&mut tally, &contest, &answer);
-        } else {
-            let mood = Mood { calm: number < 40, tight: seed.is_multiple_of(2) };
-            let action = next_action(rng, &ledger, &postings, &mut words, mood);
-            let mut answer = [UNWRITTEN];
-            let number = subject.batch(&mut ledger, &mut postings, &words, &[action], &mut answer);
-            tally.feed_list(&words, &[action], &answer, number);
+    let contested = |rng: &mut Rng, ledger: &mut [u32], postings: &mut [u32], tally: &mut Tally| {
+        let is_time = is_time_for_a_contest(rng, ledger);
+        if is_time {
+            let Play { contest, moves, replies } = any_play(rng, ledger);
+            let answer = subject.contest(ledger, postings, &contest, &moves, &replies);
+            feed(tally, &contest, &answer);
         }
-        if !sound(&ledger) || !postings_fit(&postings, ledger[HOURS]) {
-            return Err("unsound".into());
-        }
-        look(&ledger, &postings, &tally)?;
-    }
-    Ok(())
+        is_time
+    };
+    turns(subject, rng, numbers, seed.is_multiple_of(2), contested, look)
 }
 
 // Edges.

@@ -526,7 +526,7 @@ pub fn opening_of(subject: &dyn Rules, seed: u64) -> Result<(), String> {
     .map_err(|told| format!("opening, seed {seed}: {told}"))
 }
 
-/// A list answered by the subject, what it left looked at after each action.
+/// A list of actions answered by the subject, what it left looked at after each.
 fn alone(
     subject: &dyn Rules,
     seed: u64,
@@ -534,6 +534,19 @@ fn alone(
 ) -> Result<(), String> {
     let rng = &mut Rng::new(seed);
     let numbers = small_numbers(rng);
+    turns(subject, rng, numbers, seed.is_multiple_of(2), |_, _, _, _| false, look)
+}
+
+/// A list answered by the subject, what it left looked at after each turn: an action, where
+/// nothing else has taken the turn.
+pub(crate) fn turns(
+    subject: &dyn Rules,
+    rng: &mut Rng,
+    numbers: [u32; 5],
+    tight: bool,
+    taken: impl Fn(&mut Rng, &mut [u32], &mut [u32], &mut Tally) -> bool,
+    look: impl Fn(&[u32], &[u32], &Tally) -> Result<(), String>,
+) -> Result<(), String> {
     let mut ledger = vec![0; ledger_words(numbers[0], numbers[1])];
     let mut postings = vec![0; posting_words(numbers[1])];
     if subject.create(&mut ledger, numbers) != 0 {
@@ -542,11 +555,13 @@ fn alone(
     let mut tally = Tally::new(numbers[1]);
     let mut words = Words::new();
     for number in 0..100 {
-        let mood = Mood { calm: number < 40, tight: seed.is_multiple_of(2) };
-        let action = next_action(rng, &ledger, &postings, &mut words, mood);
-        let mut answer = [UNWRITTEN];
-        let number = subject.batch(&mut ledger, &mut postings, &words, &[action], &mut answer);
-        tally.feed_list(&words, &[action], &answer, number);
+        if !taken(rng, &mut ledger, &mut postings, &mut tally) {
+            let mood = Mood { calm: number < 40, tight };
+            let action = next_action(rng, &ledger, &postings, &mut words, mood);
+            let mut answer = [UNWRITTEN];
+            let number = subject.batch(&mut ledger, &mut postings, &words, &[action], &mut answer);
+            tally.feed_list(&words, &[action], &answer, number);
+        }
         if !sound(&ledger) || !postings_fit(&postings, ledger[HOURS]) {
             return Err("unsound".into());
         }

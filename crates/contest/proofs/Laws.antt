@@ -6,16 +6,15 @@ use mathlib.Core.List.{List, []}
 use Prim.Native.Nat.{ℕ, _≤_, _<_}
 use native.Mathlib.Omega.{arith}
 use borrow.Author.Tests.{ne-eqb}
-use lib.Dec.{ltb}
 use Rattle.words.specs.Lists.{total}
-use Rattle.rules.specs.Pick.{pick, _isFrom_to_}
+use Rattle.rules.specs.Pick.{pick}
 use Rattle.rules.specs.Numbers.{CONFIRMED, DISPLACED}
 use Rattle.rules.specs.Layout.{rows, hours, used, rowOf, row, available, spanHours, Sized}
 use Rattle.rules.specs.Sound.{firm}
 use Rattle.rules.specs.Megawatts.{displace}
 use Rattle.rules.specs.SellerStatus.{sellerNumber}
 use Rattle.rules.specs.Act.{commonNumber, refusal, Outcome, refused, soundBoth}
-use Rattle.rules.specs.Contest.{play, ending, notFirm, badGreatest, displacing, contestNumber, rowKept, ended, contested}
+use Rattle.rules.specs.Contest.{play, present, ending, notFirm, displacing, contestNumber, rowKept, ended, contested}
 use Rattle.rules.specs.declared.Action.{Action}
 use Rattle.rules.specs.declared.Answer.{Answer}
 use Rattle.rules.specs.declared.Contest.{Contest}
@@ -31,33 +30,34 @@ use Rattle.megawatts.proofs.Laws.{sized}
 use Rattle.megawatts.proofs.Named.{placed-at}
 use Rattle.ledger.proofs.Laws.{both-at}
 
+-- ---- the row that a contest names, once its displacement's own checks passed
+pub row-issued : (H : ℕ) (l : List ℕ) (k : Contest) → sellerNumber H l [] (displacing k) ≡ 0 → (1 ≤ k .reference) × (k .reference ≤ used l)
+row-issued H l k e = seller-status-passed H l [] (displacing k) e .reference
+
+pub in-place : {l : List ℕ} {R H : ℕ} → SoundAt l R H → (k : Contest) → (1 ≤ k .reference) × (k .reference ≤ used l) → {n : ℕ} → n ≡ rowOf (k .reference) → Placed l R H n
+in-place s k r z = placed-at s (omega (arith, r .0, r .1, z))
+
+pub in-rows : {l : List ℕ} {R H n : ℕ} → Placed l R H n → Sized l R H × (n < R)
+in-rows p = (sized p, omega (arith, p .row, p .rows, p .formed .head .used))
+
+pub present-says : (H : ℕ) (l : List ℕ) (k : Contest) {p n : ℕ} → p ≡ spanHours (row H l n) → n ≡ rowOf (k .reference) → p ≡ present H l k
+present-says H l k x z = x ∙ ap (λ (m : ℕ). spanHours (row H l m)) z
+
 -- ---- the checks before the moves, of the values that calls gave
 -- those that every action has
 pub common-says : (l ps : List ℕ) (k : Contest) {r : ℕ} {b : Bool} {a : Action} → r ≡ commonNumber b a → b ≡ soundBoth l ps → a ≡ displacing k → r ≡ commonNumber (soundBoth l ps) (displacing k)
 common-says l ps k {a = a} p s e = p ∙ ap (λ (b : Bool). commonNumber b a) s ∙ ap (λ (x : Action). commonNumber (soundBoth l ps) x) e
 
--- those of a displacement, and the row that it names
+-- those of a displacement
 pub seller-says : (H : ℕ) (l : List ℕ) (k : Contest) {r : ℕ} {a : Action} → r ≡ sellerNumber H l [] a → a ≡ displacing k → r ≡ sellerNumber H l [] (displacing k)
 seller-says H l k p e = p ∙ ap (λ (x : Action). sellerNumber H l [] x) e
-
-pub in-place : {l : List ℕ} {R H : ℕ} → SoundAt l R H → (k : Contest) {n : ℕ} → sellerNumber H l [] (displacing k) ≡ 0 → n ≡ rowOf (k .reference) → Placed l R H n
-in-place {l} {R} {H} s k e z = let P = seller-status-passed H l [] (displacing k) e in placed-at s (omega (arith, P .reference .0, P .reference .1, z))
-
-pub in-rows : {l : List ℕ} {R H n : ℕ} → Placed l R H n → Sized l R H × (n < R)
-in-rows p = (sized p, omega (arith, p .row, p .rows, p .formed .head .used))
 
 -- 11
 pub firm-says : (H : ℕ) (l : List ℕ) (k : Contest) {r b : Bool} {n : ℕ} → r ≡ firm H l n → n ≡ rowOf (k .reference) → not r ≡ b → notFirm H l k ≡ b
 unfolding notFirm
 firm-says H l k p z q = ap not (sym (p ∙ ap (λ (m : ℕ). firm H l m) z)) ∙ q
 
--- 25, of the greatest terms
-pub greatest-says : (H : ℕ) (l : List ℕ) (k : Contest) {r b : Bool} {p n : ℕ} → r ≡ (not (k .challenger isFrom 1 to H) || (not (k .holder isFrom 1 to H) || ltb (k .holder) p)) → p ≡ spanHours (row H l n) → n ≡ rowOf (k .reference) → r ≡ b → badGreatest H l k ≡ b
-unfolding badGreatest
-greatest-says H l k x y z q =
-    sym (x ∙ ap (λ (p : ℕ). not (k .challenger isFrom 1 to H) || (not (k .holder isFrom 1 to H) || ltb (k .holder) p)) (y ∙ ap (λ (m : ℕ). spanHours (row H l m)) z)) ∙ q
-
--- a range is left, or kept, and the rest decides
+-- 25, of the greatest terms: a range is left, or kept, and the rest decides
 pub left-first : {r : Bool} (a b : Bool) → r ≡ a → not r ≡ true → not r ≡ (not a || b)
 left-first a b p q = q ∙ or-stops (not a) b (ap not (sym p) ∙ q)
 
@@ -65,9 +65,9 @@ pub kept-first : {r : Bool} (a b v : Bool) → r ≡ a → not r ≡ false → v
 kept-first a b v p q h = or-goes (not a) b v (ap not (sym p) ∙ q) h
 
 -- ---- the moves
-pub ending-says : (H : ℕ) (l : List ℕ) (k : Contest) (moves replies : List ℕ) {e : Ending} {p n : ℕ} → e ≡ play (k .challenger) (k .holder) p moves replies → p ≡ spanHours (row H l n) → n ≡ rowOf (k .reference) → e ≡ ending H l k moves replies
+pub ending-says : (H : ℕ) (l : List ℕ) (k : Contest) (moves replies : List ℕ) {e : Ending} {p : ℕ} → e ≡ play (k .challenger) (k .holder) p moves replies → p ≡ present H l k → e ≡ ending H l k moves replies
 unfolding ending
-ending-says H l k moves replies x y z = x ∙ ap (λ (q : ℕ). play (k .challenger) (k .holder) q moves replies) (y ∙ ap (λ (m : ℕ). spanHours (row H l m)) z)
+ending-says H l k moves replies x y = x ∙ ap (λ (q : ℕ). play (k .challenger) (k .holder) q moves replies) y
 
 -- ---- a row lost: a displaced word would pass 100,000, or it is displaced
 module _ (H : ℕ) (l : List ℕ) (k : Contest) {n : ℕ} {o : Bool} (z : n ≡ rowOf (k .reference)) (over : o ≡ overDisplacing H (row H l n)) where
@@ -94,8 +94,7 @@ module _ (l ps : List ℕ) (k : Contest) (moves replies : List ℕ) {n : ℕ} (i
     pub passed-sound : SoundAt l (rows l) (hours l) × ((1 ≤ k .reference) × (k .reference ≤ used l))
     passed-sound =
         let C = contest-passed l ps k (sym is ∙ none) in
-        let P = seller-status-passed (hours l) l [] (displacing k) (C .seller) in
-        (both-at l ps (C .both) .0, (P .reference .0, P .reference .1))
+        (both-at l ps (C .both) .0, row-issued (hours l) l k (C .seller))
 
     -- the ending decides
     pub ended-by : {e v : Ending} → e ≡ ending (hours l) l k moves replies → e ≡ v → contested l ps k moves replies ≡ ended l ps k v

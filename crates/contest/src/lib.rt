@@ -10,6 +10,7 @@ ghost use Rattle.rules.specs.Contest.{ending, rowKept, contested};
 ghost use Rattle.rules.proofs.Contested.{rowLost};
 ghost use Rattle.layout.specs.SoundAt.{SoundAt};
 use crate::number::contest_number;
+use crate::number::present_term;
 use crate::playing::play;
 use layout::numbers::AVAILABLE_PART;
 use layout::numbers::CONFIRMED;
@@ -22,7 +23,6 @@ use ledger::answering::refused;
 use ledger::answering::span_total;
 use megawatts::moving::displace;
 use megawatts::moving::over_displacing;
-use megawatts::reading::count_of;
 use rules::Answer;
 use rules::Contest;
 use rules::Ending;
@@ -41,8 +41,7 @@ fn contest_ending(
     requires { ⌜ (1 ≤ k .reference) × (k .reference ≤ used (now l)) ⌝ }
     ensures { λ r. ⌜ r ≡ ending hours (now (l .entry)) k (now (moves .entry)) (now (replies .entry)) ⌝ }
 {
-    let row = rules::row_of(Reference(k.reference));
-    let present = count_of(l, rows, hours, row.0) as u32;
+    let present = present_term(l, rows, hours, k);
     play(k.challenger, k.holder, present, moves, replies)
 }
 

@@ -1,9 +1,8 @@
 // The checks of a contest before its moves.
 ghost use mathlib.Core.Path.{_≡_};
-ghost use mathlib.Core.Bool.{_||_, not};
-ghost use lib.Dec.{ltb};
-ghost use Rattle.rules.specs.Pick.{_isFrom_to_};
-ghost use Rattle.rules.specs.Contest.{displacing as displacingOf, contestChecks, contestNumber};
+ghost use Prim.Native.Nat.{_≤_};
+ghost use Rattle.rules.specs.Layout.{used};
+ghost use Rattle.rules.specs.Contest.{present, badGreatest, displacing as displacingOf, contestChecks, contestNumber};
 ghost use Rattle.layout.specs.SoundAt.{SoundAt};
 use checks::checks::is_from;
 use layout::class::firm;
@@ -44,11 +43,25 @@ fn displacing(k: Contest) -> Action
     }
 }
 
-// A greatest term is 0, above the ledger's hours or, for the holder, below its present one.
-fn bad_greatest(hours: u32, present: u32, k: Contest) -> bool
-    ensures { λ b. ⌜ b ≡ (not (k .challenger isFrom 1 to hours) || (not (k .holder isFrom 1 to hours) || ltb (k .holder) present)) ⌝ }
+// The row's own hours: the holder's present term.
+pub fn present_term(l: &[u32], rows: usize, hours: usize, k: Contest) -> u32
+    requires { ⌜ SoundAt (now l) rows hours ⌝ }
+    requires { ⌜ (1 ≤ k .reference) × (k .reference ≤ used (now l)) ⌝ }
+    ensures { λ r. ⌜ r ≡ present hours (now (l .entry)) k ⌝ }
 {
-    !is_from(k.challenger, 1, hours) || (!is_from(k.holder, 1, hours) || k.holder < present)
+    let row = rules::row_of(Reference(k.reference));
+    count_of(l, rows, hours, row.0) as u32
+}
+
+// A greatest term is 0, above the ledger's hours or, for the holder, below its present one.
+fn bad_greatest(l: &[u32], rows: usize, hours: usize, k: Contest) -> bool
+    requires { ⌜ SoundAt (now l) rows hours ⌝ }
+    requires { ⌜ (1 ≤ k .reference) × (k .reference ≤ used (now l)) ⌝ }
+    ensures { λ b. ⌜ b ≡ badGreatest hours (now (l .entry)) k ⌝ }
+{
+    let most = hours as u32;
+    let present = present_term(l, rows, hours, k);
+    !is_from(k.challenger, 1, most) || (!is_from(k.holder, 1, most) || k.holder < present)
 }
 
 // The checks of a sound ledger. A displacement reads no profile.
@@ -64,8 +77,7 @@ fn contest_checks(l: &[u32], rows: usize, hours: usize, k: Contest) -> u32
     if !firm(l, rows, hours, row) {
         return WRONG_MOVE;
     }
-    let present = count_of(l, rows, hours, row.0) as u32;
-    if bad_greatest(hours as u32, present, k) {
+    if bad_greatest(l, rows, hours, k) {
         return TERM_OUT_OF_RANGE;
     }
     0

@@ -19,6 +19,7 @@ use Rattle.rules.specs.Act.{kindNumber, kindAfter, postingsAfter, common
 use Rattle.rules.specs.Contest.{stops, yields, badTerm, badMatch, replied, play, present, ending, badGreatest, displacing, contestChecks, contestNumber, rowKept, ended, contested, isLost, loses}
 use Rattle.rules.specs.FirstRefusal.{Strategy, repliesTo, movesAgainst, rises, answersEach, Displaceable, HolderKeeps, ChallengerTakes}
 use Rattle.rules.specs.declared.Action.{Action}
+use Rattle.rules.specs.declared.Answer.{Answer}
 use Rattle.rules.specs.declared.Contest.{Contest}
 use Rattle.rules.specs.declared.Ending.{Ending}
 use Rattle.rules.specs.declared.Ending.the-variants.{Kept, Lost, Unfinished, Refused}
@@ -108,10 +109,28 @@ module _ {l ps : List ℕ} {k : Contest} (C : ContestPassed l ps k) where
       go false = accepted-is
 
 -- ---- any contest
+-- it is the displacement, where the row is lost, or leaves all as it is
+pub contest-by : (l ps : List ℕ) (k : Contest) (moves replies : List ℕ) (P : Bool → Outcome → Type 0)
+    → P true (outcome l ps [] (displacing k)) → ((a : Answer) → P false (record { answer = a; ledger = l; postings = ps }))
+    → P (loses l ps k moves replies) (contested l ps k moves replies)
+unfolding contested ended rowKept refused loses
+contest-by l ps k moves replies P lost stays = go (eqb (contestNumber l ps k) 0) (ending (hours l) l k moves replies)
+  where
+    go : (t : Bool) (e : Ending) → P (t && isLost e) (pick t (ended l ps k e) (refused l ps (contestNumber l ps k)))
+    go true Kept = stays _
+    go true Lost = lost
+    go true Unfinished = stays _
+    go true Refused = stays _
+    go false e = stays _
+
+-- only a row lost alters the ledger
+pub contest-stays : (l ps : List ℕ) (k : Contest) (moves replies : List ℕ) → loses l ps k moves replies ≡ false → contested l ps k moves replies .ledger ≡ l
+contest-stays l ps k moves replies = contest-by l ps k moves replies (λ lost left. lost ≡ false → left .ledger ≡ l) (λ e. cc) (λ _ e. refl)
+
 -- no posting is altered
-displacement-postings : (l ps : List ℕ) (k : Contest) → outcome l ps [] (displacing k) .postings ≡ ps
+pub contest-postings : (l ps : List ℕ) (k : Contest) (moves replies : List ℕ) → contested l ps k moves replies .postings ≡ ps
 unfolding outcome step accepted postingsAfter refused
-displacement-postings l ps k = go (eqb n 0)
+contest-postings l ps k moves replies = contest-by l ps k moves replies (λ _ left. left .postings ≡ ps) (go (eqb n 0)) (λ _. refl)
   where
     n : ℕ
     n = number (soundBoth l ps) l ps [] (displacing k)
@@ -120,43 +139,11 @@ displacement-postings l ps k = go (eqb n 0)
     go true = refl
     go false = refl
 
-pub contest-postings : (l ps : List ℕ) (k : Contest) (moves replies : List ℕ) → contested l ps k moves replies .postings ≡ ps
-unfolding contested ended rowKept refused
-contest-postings l ps k moves replies = go (eqb (contestNumber l ps k) 0) (ending (hours l) l k moves replies)
-  where
-    go : (t : Bool) (e : Ending) → pick t (ended l ps k e) (refused l ps (contestNumber l ps k)) .postings ≡ ps
-    go true Kept = refl
-    go true Lost = displacement-postings l ps k
-    go true Unfinished = refl
-    go true Refused = refl
-    go false e = refl
-
--- only a row lost alters the ledger
-pub contest-stays : (l ps : List ℕ) (k : Contest) (moves replies : List ℕ) → loses l ps k moves replies ≡ false → contested l ps k moves replies .ledger ≡ l
-unfolding contested ended rowKept refused loses
-contest-stays l ps k moves replies = go (eqb (contestNumber l ps k) 0) (ending (hours l) l k moves replies)
-  where
-    go : (t : Bool) (e : Ending) → (t && isLost e) ≡ false → pick t (ended l ps k e) (refused l ps (contestNumber l ps k)) .ledger ≡ l
-    go true Kept q = refl
-    go true Lost q = cc
-    go true Unfinished q = refl
-    go true Refused q = refl
-    go false e q = refl
-
 -- a sound ledger and sound postings stay sound
 pub contest-sound : (l ps : List ℕ) (k : Contest) (moves replies : List ℕ) → soundBoth l ps ≡ true → soundBoth (contested l ps k moves replies .ledger) (contested l ps k moves replies .postings) ≡ true
-unfolding contested ended rowKept refused outcome
-contest-sound l ps k moves replies s = go (eqb (contestNumber l ps k) 0) (ending (hours l) l k moves replies)
-  where
-    left : Bool → Ending → Outcome
-    left t e = pick t (ended l ps k e) (refused l ps (contestNumber l ps k))
-
-    go : (t : Bool) (e : Ending) → soundBoth (left t e .ledger) (left t e .postings) ≡ true
-    go true Kept = s
-    go true Lost = sound-step l ps [] (displacing k) s
-    go true Unfinished = s
-    go true Refused = s
-    go false e = s
+unfolding outcome
+contest-sound l ps k moves replies s =
+    contest-by l ps k moves replies (λ _ left. soundBoth (left .ledger) (left .postings) ≡ true) (sound-step l ps [] (displacing k) s) (λ _. s)
 
 -- ---- where the displacement would be accepted
 module _ {l ps : List ℕ} {k : Contest} (D : Displaceable l ps k) where

@@ -1,20 +1,17 @@
 -- What each action keeps, every list of calls keeps.
 use mathlib.Core.Path.{_≡_, refl, sym, ap, subst, _∙_}
-use mathlib.Core.Bool.{Bool, true, false, _&&_}
+use mathlib.Core.Bool.{Bool, true, false}
 use mathlib.Core.List.{List, [], _∷_, _++_, append-assoc, append-nil}
 use Prim.Native.Nat.{ℕ}
-use lib.Dec.{eqb}
 use Rattle.rules.specs.Pick.{pick}
-use Rattle.rules.specs.Layout.{hours}
-use Rattle.rules.specs.Act.{Outcome, refused, outcome}
-use Rattle.rules.specs.Contest.{ending, displacing, contestNumber, rowKept, ended, contested, isLost, loses}
+use Rattle.rules.specs.Act.{Outcome, outcome}
+use Rattle.rules.specs.Contest.{displacing, loses}
 use Rattle.rules.specs.Calls.{Done, Run, Call, one, together, contest, doing, runActions, tooFew, togetherRun, contestRun, runCall, joined, runCalls, settledCall, settledCalls, actionsAlone}
 use Rattle.rules.specs.FirstRefusal.{SettledAlike}
 use Rattle.rules.specs.Tally.{Tally, feed, tallyFrom}
 use Rattle.rules.specs.declared.Action.{Action}
 use Rattle.rules.specs.declared.Contest.{Contest}
-use Rattle.rules.specs.declared.Ending.{Ending}
-use Rattle.rules.specs.declared.Ending.the-variants.{Kept, Lost, Unfinished, Refused}
+use Rattle.rules.proofs.Contested.{contest-by}
 
 -- a tally of two lists, one after the other
 tally-join : (t : Tally) (ds es : List Done) → tallyFrom t (ds ++ es) ≡ tallyFrom (tallyFrom t ds) es
@@ -28,20 +25,14 @@ contestActions l ps k moves replies = pick (loses l ps k moves replies) (displac
 
 -- it is the run of them
 pub contest-actions : (l ps : List ℕ) (k : Contest) (moves replies : List ℕ) → contestRun l ps k moves replies ≡ runActions l ps [] (contestActions l ps k moves replies)
-unfolding contestRun contested ended loses contestActions runActions doing rowKept refused
-contest-actions l ps k moves replies = go (eqb (contestNumber l ps k) 0) (ending (hours l) l k moves replies)
-  where
-    left : Bool → Ending → Outcome
-    left t e = pick t (ended l ps k e) (refused l ps (contestNumber l ps k))
-
-    go : (t : Bool) (e : Ending)
-        → record { ledger = left t e .ledger; postings = left t e .postings; done = pick (t && isLost e) (record { action = displacing k; words = []; answer = left t e .answer } ∷ []) [] }
-        ≡ runActions l ps [] (pick (t && isLost e) (displacing k ∷ []) [])
-    go true Kept = refl
-    go true Lost = refl
-    go true Unfinished = refl
-    go true Refused = refl
-    go false e = refl
+unfolding contestRun contestActions runActions doing
+contest-actions l ps k moves replies =
+    contest-by l ps k moves replies
+    (λ lost left.
+    record { ledger = left .ledger; postings = left .postings; done = pick lost (record { action = displacing k; words = []; answer = left .answer } ∷ []) [] }
+    ≡ runActions l ps [] (pick lost (displacing k ∷ []) []))
+    refl
+    (λ _. refl)
 
 -- ---- calls without their contests
 run-append : (cs ds : List Call) (l ps : List ℕ) → runCalls l ps (cs ++ ds) ≡ joined (runCalls l ps cs) (runCalls (runCalls l ps cs .ledger) (runCalls l ps cs .postings) ds)

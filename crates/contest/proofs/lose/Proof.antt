@@ -1,24 +1,17 @@
 -- `contest::lose` meets its contract.
 use mathlib.Core.Path.{sym, _∙_}
-use Prim.Native.Nat.{_<_}
-use native.Mathlib.Omega.{arith}
 use lib.Dec.{lit<}
 use borrow.Author.Needs.{needs}
-use Rattle.rules.specs.Layout.{used}
 use Rattle.megawatts.specs.Placed.{Placed}
-use Rattle.megawatts.proofs.Named.{placed-at}
-use Rattle.contest.proofs.Laws.{over-lost, displaced-lost}
+use Rattle.contest.proofs.Laws.{in-place, over-lost, displaced-lost}
 use Rattle.contest.proofs.lose.Statement.{statement}
 use Rattle.contest.proofs.lose.Tie as tie
 
 abbrev S : tie.After-row-of → tie.Start
 S x = x .before .before
 
-in-use : (x : tie.After-row-of) → x .row-of .result .0 < used (S x .args .l .now)
-in-use x = omega (arith, x .row-of .ensures, S x .pre .1 .0, S x .pre .1 .1)
-
 placed : (x : tie.After-row-of) → Placed (S x .args .l .now) (S x .args .rows) (S x .args .hours) (x .row-of .result .0)
-placed x = placed-at (S x .pre .0) (in-use x)
+placed x = in-place (S x .pre .0) (S x .args .k) (S x .pre .1) (x .row-of .ensures)
 
 pub lose-spec : {M : Type 1} → statement M
 lose-spec =
@@ -29,7 +22,7 @@ lose-spec =
     (λ c κs. search needs)
     (λ c. search needs)
     (λ c. over-lost _ _ _ (c .before .before .before .before .row-of .ensures) (c .before .before .over-displacing .ensures) (c .before .if1 .taken) (c .refused .ensures))
-    (λ c κs. let x = c .before .before .before .before in (S x .pre .0, (in-use x, lit< tt)))
+    (λ c κs. let x = c .before .before .before .before in (S x .pre .0, (placed x .row, lit< tt)))
     (λ c κs. (placed (c .before .before .before .before .before .before), sym (c .before .before .before .before .over-displacing .ensures) ∙ c .before .before .before .if1 .left))
     (λ c. search needs)
     (λ c.
