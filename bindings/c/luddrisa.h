@@ -108,6 +108,13 @@
  *      shorter than its row; a term or a match goes beyond what its party can, or
  *      a term does not outlast the one before
  *
+ * ORDER   Two actions, neither of them a submission, a clock change or a posting,
+ * come to the same in either order if their rows are of different trees and no
+ * path stands in rows of both: the same words, and the same answer to each,
+ * refusals included. A tree is an original and all rows that descend from it by
+ * their related references, whatever their status. With a path in common the
+ * first may be confirmed and the second refused.
+ *
  * POINTERS   No pointer may be NULL, also where its length is 0. Each must be
  * aligned for its type and good for its length during the call. What a call
  * writes must overlap nothing else that it is handed. The library keeps no

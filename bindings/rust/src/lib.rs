@@ -59,6 +59,8 @@
 //! hour balances; actions do not test it.
 //! A list of actions is not all-or-nothing: each has its own answer. A charge
 //! goes by what was granted and ignores reductions, resales and transfers.
+//! Two actions on rows of different originals' trees, with no path in rows of both,
+//! come to the same in either order, unless one submits, posts or sets the clock.
 //! A contest is a call of its own and no action. Only a firm row is contested, and
 //! only by its seller; a match keeps the row as it is and does not lengthen it. A row
 //! over all hours of its ledger can't be lost, for no longer term can be named.

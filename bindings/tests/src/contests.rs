@@ -541,11 +541,11 @@ pub fn limits_and_opening_of(subject: &dyn Rules, seed: u64) -> Result<(), Strin
 }
 
 /// A list with contests answered by the subject, what it left looked at after each.
-fn alone(
+pub(crate) fn alone(
     subject: &dyn Rules,
     seed: u64,
     feed: Feed,
-    look: impl Fn(&[u32], &[u32], &Tally) -> Result<(), String>,
+    look: impl FnMut(&[u32], &[u32], &Tally) -> Result<(), String>,
 ) -> Result<(), String> {
     let rng = &mut Rng::new(seed ^ OWN_NUMBERS);
     let numbers = numbers(rng);

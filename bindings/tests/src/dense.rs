@@ -101,7 +101,7 @@ pub fn postings_of(rng: &mut Rng, ledger: &[u32]) -> Vec<u32> {
     postings
 }
 
-fn set_to_use(path_postings: &mut [u32], ledger: &[u32], path: u32) {
+pub(crate) fn set_to_use(path_postings: &mut [u32], ledger: &[u32], path: u32) {
     for (posted, mw) in path_postings.iter_mut().zip(path_use(ledger, path)) {
         *posted = mw.min(MAX_MW);
     }
@@ -245,7 +245,8 @@ pub fn any_action(rng: &mut Rng, ledger: &[u32], words: &mut Words) -> Action {
     } else if kind == SUBMIT || used == 0 {
         submission(rng, ledger, words)
     } else {
-        on_row(rng, ledger, words, kind)
+        let reference = rng.from_to(1, used);
+        on_row(rng, ledger, words, kind, reference)
     };
     if rng.chance(10) {
         action.actor = rng.pick(&[provider, 10, 11, 12, 0, 65_535]);
@@ -263,8 +264,14 @@ pub fn any_action(rng: &mut Rng, ledger: &[u32], words: &mut Words) -> Action {
     action
 }
 
-fn on_row(rng: &mut Rng, ledger: &[u32], words: &mut Words, kind: u32) -> Action {
-    let reference = rng.from_to(1, ledger[USED]);
+/// An action of a kind on a row, at whatever status, that may well be accepted.
+pub(crate) fn on_row(
+    rng: &mut Rng,
+    ledger: &[u32],
+    words: &mut Words,
+    kind: u32,
+    reference: u32,
+) -> Action {
     let row = Row::of(ledger, reference);
     let from = row.get(ledger, STATUS);
     let statuses: &[u32] = match (kind, from) {

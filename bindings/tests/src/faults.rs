@@ -54,6 +54,8 @@ pub struct Faulty {
     pub unbalanced: bool,
     /// True where use against postings alone must find it.
     pub overused: bool,
+    /// True where the two orders of actions on trees apart alone must find it.
+    pub crossed: bool,
 }
 
 impl Faulty {
@@ -675,8 +677,41 @@ fn has_own_class(ledger: &[u32], row: Row) -> bool {
     !matches!(row.get(ledger, TYPE), RESALE | PART_TRANSFER | FULL_TRANSFER)
 }
 
-const PLAIN: Faulty =
-    Faulty { name: "", fault: Fault::Act(|_, _, _| ()), unbalanced: false, overused: false };
+// Trees that another desk works on.
+
+/// The row of an answer that confirms what comes from a related row.
+fn confirmed_from_related(ledger: &[u32], answer: &Answer) -> Option<Row> {
+    let row = row_of(ledger, answer).filter(|_| confirms(answer))?;
+    related(ledger, row).map(|_| row)
+}
+
+fn is_offer(status: u32) -> bool {
+    matches!(status, COUNTEROFFER | CR_COUNTEROFFER | ACCEPTED | CR_ACCEPTED)
+}
+
+/// True where an offer is out and not answered.
+fn is_offered(ledger: &[u32], row: Row) -> bool {
+    is_offer(row.get(ledger, STATUS))
+}
+
+fn offers(case: &Case, answer: &Answer) -> bool {
+    let Action { kind, status, .. } = *case.action;
+    answer.number == 0 && kind == SELLER_STATUS && is_offer(status)
+}
+
+/// The used rows but the action's own.
+fn other_rows(case: &Case) -> impl Iterator<Item = Row> {
+    let own = Row::of(case.before, case.action.reference).at;
+    used_rows(case.before).into_iter().filter(move |row| row.at != own)
+}
+
+const PLAIN: Faulty = Faulty {
+    name: "",
+    fault: Fault::Act(|_, _, _| ()),
+    unbalanced: false,
+    overused: false,
+    crossed: false,
+};
 
 const fn acting(name: &'static str, spoil: fn(&Case, &mut [u32], &mut Answer)) -> Faulty {
     Faulty { name, fault: Fault::Act(spoil), ..PLAIN }
@@ -690,12 +725,21 @@ const fn overusing(name: &'static str, spoil: fn(&Case, &mut [u32], &mut Answer)
     Faulty { overused: true, ..acting(name, spoil) }
 }
 
+/// An action is felt in a tree apart from its own.
+const fn crossing(name: &'static str, spoil: fn(&Case, &mut [u32], &mut Answer)) -> Faulty {
+    Faulty { crossed: true, ..acting(name, spoil) }
+}
+
 const fn posting(name: &'static str, spoil: fn(&Case, &mut [u32], &mut Answer)) -> Faulty {
     Faulty { name, fault: Fault::Post(spoil), ..PLAIN }
 }
 
 const fn overposting(name: &'static str, spoil: fn(&Case, &mut [u32], &mut Answer)) -> Faulty {
     Faulty { overused: true, ..posting(name, spoil) }
+}
+
+const fn crossposting(name: &'static str, spoil: fn(&Case, &mut [u32], &mut Answer)) -> Faulty {
+    Faulty { crossed: true, ..posting(name, spoil) }
 }
 
 const fn calling(name: &'static str, fault: Fault) -> Faulty {
@@ -1671,6 +1715,129 @@ pub const FAULTS: &[Faulty] = &[
     acting("answers a posting with its MW-hours", |case, _, answer| {
         if posts(case, answer) {
             answer.moved = profile_of(case).iter().sum();
+        }
+    }),
+    // Trees that another desk works on.
+    crossing("gives an annulled row back to the first original", |case, ledger, answer| {
+        let Some(row) = row_of(ledger, answer) else { return };
+        let Some(above) = related(ledger, row) else { return };
+        if (answer.before, answer.after) != (CONFIRMED, ANNULLED) {
+            return;
+        }
+        for profile in [AVAILABLE, DISPLACED_MW] {
+            let words = above.profile(profile);
+            ledger[words.clone()].copy_from_slice(&case.before[words]);
+        }
+        let first = Row::of(ledger, 1);
+        for hour in first.get(ledger, START) as usize..first.get(ledger, STOP) as usize {
+            let mw = ledger[row.profile(GRANTED).start + hour];
+            let at = first.profile(AVAILABLE).start + hour;
+            ledger[at] = (ledger[at] + mw).min(MAX_MW);
+        }
+    }),
+    crossing("approves all transfers at once", |case, ledger, answer| {
+        if case.action.kind == APPROVE && answer.number == 0 {
+            for row in other_rows(case) {
+                if matches!(row.get(ledger, TYPE), PART_TRANSFER | FULL_TRANSFER) {
+                    row.set(ledger, FLAGS, row.get(ledger, FLAGS) | APPROVED);
+                }
+            }
+        }
+    }),
+    crossing("restarts the limit of every offer", |case, ledger, answer| {
+        if offers(case, answer) {
+            for row in other_rows(case).filter(|&row| is_offered(case.before, row)) {
+                row.set(ledger, LIMIT, ledger[NOW] + ledger[WINDOW]);
+            }
+        }
+    }),
+    crossing("supersedes all open rows of a customer", |case, ledger, answer| {
+        let Some(row) = row_of(ledger, answer).filter(|_| answer.after == SUPERSEDED) else {
+            return;
+        };
+        for other in other_rows(case) {
+            let same = other.get(ledger, CUSTOMER) == row.get(ledger, CUSTOMER);
+            if same && is_open(other.get(ledger, STATUS)) {
+                other.set(ledger, STATUS, SUPERSEDED);
+            }
+        }
+    }),
+    crossing("retracts every offer past its limit", |case, ledger, answer| {
+        if case.action.kind == LAPSE && answer.number == 0 {
+            for row in other_rows(case).filter(|&row| is_offered(case.before, row)) {
+                if row.get(ledger, LIMIT) <= ledger[NOW] {
+                    row.set(ledger, STATUS, RETRACTED);
+                }
+            }
+        }
+    }),
+    crossing("moves the clock on with every offer", |case, ledger, answer| {
+        if offers(case, answer) {
+            ledger[NOW] = (ledger[NOW] + 1).min(END_SECOND - 1);
+        }
+    }),
+    crossposting("takes a reduction off the postings of all paths", |case, postings, answer| {
+        if reduces(case, answer) {
+            let row = Row::of(case.before, case.action.reference);
+            let start = row.get(case.before, START) as usize;
+            for path in 1..=MAX_PATH {
+                for (at, mw) in posted(path, row.hours).skip(start).zip(profile_of(case)) {
+                    postings[at] = postings[at].saturating_sub(*mw);
+                }
+            }
+        }
+    }),
+    crossing("compares with what the first original has", |case, ledger, answer| {
+        let Some(row) = confirmed_from_related(ledger, answer) else { return };
+        let first = Row::of(case.before, 1).profile(AVAILABLE);
+        let mut hours = first.zip(row.profile(GRANTED));
+        if hours.any(|(has, wants)| case.before[has] < ledger[wants]) {
+            refuse(case, ledger, answer, SHORT);
+        }
+    }),
+    crossing("asks all originals to be CONFIRMED", |case, ledger, answer| {
+        let idle = |row: Row| is_original(case.before, row) && !is_confirmed(case.before, row);
+        let asks = confirmed_from_related(ledger, answer).is_some();
+        if asks && used_rows(case.before).into_iter().any(idle) {
+            refuse(case, ledger, answer, BAD_RELATED);
+        }
+    }),
+    crossing("lapses by the limit of the row before", |case, ledger, answer| {
+        let looks = case.action.kind == LAPSE && matches!(answer.number, 0 | BEFORE_LIMIT);
+        if !looks || case.action.reference == 1 {
+            return;
+        }
+        let limit = Row::of(case.before, case.action.reference - 1).get(case.before, LIMIT);
+        if case.before[NOW] < limit {
+            refuse(case, ledger, answer, BEFORE_LIMIT);
+        } else {
+            again(case, ledger, answer, |ledger, row| row.set(ledger, LIMIT, 0));
+        }
+    }),
+    crossing("counts rows on any path in the use", |case, ledger, answer| {
+        judged(case, ledger, answer, |after, row| {
+            let any_path: Times = |ledger, row, _| u32::from(is_confirmed(ledger, row));
+            either_over(after, case.postings, row, any_path)
+        });
+    }),
+    crossing("holds a row to the posting of the next path too", |case, ledger, answer| {
+        judged(case, ledger, answer, |after, row| {
+            let next = row.get(after, PATH) % MAX_PATH + 1;
+            either_over(after, case.postings, row, counted)
+                || over(after, case.postings, next, counted)
+        });
+    }),
+    crossing("answers with all that the customer holds", |_, ledger, answer| {
+        let Some(row) = row_of(ledger, answer).filter(|_| confirms(answer)) else { return };
+        let held = used_rows(ledger)
+            .into_iter()
+            .filter(|other| other.get(ledger, CUSTOMER) == row.get(ledger, CUSTOMER))
+            .map(|other| ledger[other.profile(AVAILABLE)].iter().sum::<u32>());
+        answer.moved = held.sum();
+    }),
+    crossing("answers with the last row's status before", |case, _, answer| {
+        if answer.number == 0 && (SELLER_STATUS..=LAPSE).contains(&case.action.kind) {
+            answer.before = Row::of(case.before, case.before[USED]).get(case.before, STATUS);
         }
     }),
     // Opening.

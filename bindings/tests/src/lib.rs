@@ -5,14 +5,16 @@
 //! and deep chains), `dense` (any kind on any sound ledger), `edges` (words and
 //! fields at their bounds and over), `openings` (ledgers that open, and damaged
 //! ones), `contests` (between the actions of lists, on any ledger, at their edges,
-//! and by strategies), `batches` and `stamps`. `limits` works out the use of paths
-//! apart from the model, `plays` what a contest comes to. `faults` holds models with
-//! a planted fault; the tests prove that each is caught.
+//! and by strategies), `batches` and `stamps`. `desks` gives a subject two actions in
+//! either order. `limits` works out the use of paths apart from the model, `plays` what
+//! a contest comes to. `faults` holds models with a planted fault; the tests prove that
+//! each is caught.
 
 pub mod batches;
 pub mod contests;
 pub mod converted;
 pub mod dense;
+pub mod desks;
 pub mod edges;
 pub mod faults;
 pub mod limits;

@@ -226,7 +226,7 @@ fn at_level(
 }
 
 /// The next step of an open row.
-fn step(rng: &mut Rng, ledger: &[u32], words: &mut Words, reference: u32) -> Action {
+pub(crate) fn step(rng: &mut Rng, ledger: &[u32], words: &mut Words, reference: u32) -> Action {
     let row = Row::of(ledger, reference);
     let status = row.get(ledger, STATUS);
     let flags = row.get(ledger, FLAGS);
@@ -325,7 +325,7 @@ fn reduced(ledger: &[u32], references: &[u32]) -> Vec<u32> {
 }
 
 /// A reduction of a CONFIRMED row, often of one that was reduced before.
-fn reduction(rng: &mut Rng, ledger: &[u32], words: &mut Words, held: &[u32]) -> Action {
+pub(crate) fn reduction(rng: &mut Rng, ledger: &[u32], words: &mut Words, held: &[u32]) -> Action {
     let again = reduced(ledger, held);
     let any = again.is_empty() || rng.chance(50);
     let reference = rng.pick(if any { held } else { &again });
@@ -545,7 +545,7 @@ pub(crate) fn turns(
     numbers: [u32; 5],
     tight: bool,
     taken: impl Fn(&mut Rng, &mut [u32], &mut [u32], &mut Tally) -> bool,
-    look: impl Fn(&[u32], &[u32], &Tally) -> Result<(), String>,
+    mut look: impl FnMut(&[u32], &[u32], &Tally) -> Result<(), String>,
 ) -> Result<(), String> {
     let mut ledger = vec![0; ledger_words(numbers[0], numbers[1])];
     let mut postings = vec![0; posting_words(numbers[1])];

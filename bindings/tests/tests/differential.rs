@@ -9,8 +9,8 @@ use luddrisa_tests::faults::{Faulty, CONTESTED_APART, FAULTS, JUDGED_APART, OPEN
 use luddrisa_tests::plays::Ending;
 use luddrisa_tests::reached::FOUND;
 use luddrisa_tests::rules::{Model, Rules};
-use luddrisa_tests::run::{Difference, Run};
-use luddrisa_tests::{batches, contests, dense, edges, lists, openings, stamps};
+use luddrisa_tests::run::{Difference, Run, UNWRITTEN};
+use luddrisa_tests::{batches, contests, dense, desks, edges, lists, openings, stamps};
 
 #[cfg(feature = "archive")]
 const SUBJECT: &dyn Rules = &luddrisa_tests::rules::Library;
@@ -180,7 +180,7 @@ fn planted_faults_are_caught() {
         }
     }
     assert!(missed.is_empty(), "not caught: {missed:?}");
-    assert!(FAULTS.len() > 270, "only {}", FAULTS.len());
+    assert!(FAULTS.len() > 285, "only {}", FAULTS.len());
 }
 
 /// No other generator is needed to find a fault in contests.
@@ -294,6 +294,103 @@ fn the_limits_alone_catch_overuse() {
     assert!(overused.len() >= 5);
     for faulty in overused {
         assert!(lists(faulty).is_some(), "not caught: {}", faulty.name);
+    }
+}
+
+/// Desks that work on trees apart need not know who was first: same answers, refusals
+/// included, and same words left, whatever the postings.
+#[test]
+fn on_trees_apart_either_order_comes_to_the_same() {
+    match desks::either_order(SUBJECT, SEED, 4_000) {
+        Err(difference) => expect_agreement(Err(difference)),
+        Ok(met) => {
+            println!("{}", met.told());
+            expect_agreement(met.check());
+        }
+    }
+}
+
+/// That is asked for a reason: over a common path the order matters, though only where
+/// one of the two meets the posting, and within a tree it matters without.
+#[test]
+fn on_a_common_path_or_in_one_tree_the_order_matters() {
+    use desks::Between::{CommonPath, OneTree};
+    use desks::Point::{Differs, DiffersByLimit, Tried};
+    match desks::either_order(SUBJECT, SEED, 2_000) {
+        Err(difference) => expect_agreement(Err(difference)),
+        Ok(met) => {
+            for (point, least) in [
+                (Tried(CommonPath), 20_000),
+                (DiffersByLimit(CommonPath), 100),
+                (Tried(OneTree), 20_000),
+                (Differs(OneTree), 5_000),
+            ] {
+                println!("{point:?} × {}", met.times(point));
+                assert!(met.times(point) >= least, "{point:?} only {} times", met.times(point));
+            }
+            assert_eq!(met.times(Differs(CommonPath)), 0, "without a 22");
+        }
+    }
+}
+
+/// Two originals of 100 MW for which the seller says yes, where 100 are posted: on two
+/// paths both are confirmed, on one path whichever is first.
+#[test]
+fn on_one_path_the_first_of_two_originals_is_confirmed() {
+    use desks::Between::{Apart, CommonPath};
+    use luddrisa_model::*;
+    let post =
+        |path| Action { kind: POST, actor: 1, path, stop: 1, length: 1, ..Action::default() };
+    let submit = |actor, path| Action {
+        kind: SUBMIT,
+        actor,
+        reqtype: ORIGINAL_FIRM,
+        seller: 1,
+        flags: PRECONFIRMED,
+        ..post(path)
+    };
+    let accept = |reference| {
+        let action =
+            Action { kind: SELLER_STATUS, actor: 1, status: ACCEPTED, ..Action::default() };
+        desks::Lent { action: Action { reference, ..action }, words: Vec::new() }
+    };
+    let confirmed = |reference| Answer { number: 0, reference, before: 1, after: 13, moved: 100 };
+    let refused = Answer { number: 22, reference: 0, before: 0, after: 0, moved: 0 };
+    for (path, between) in [(2, Apart), (1, CommonPath)] {
+        let mut ledger = vec![0; ledger_words(2, 1)];
+        let mut postings = vec![0; posting_words(1)];
+        assert_eq!(SUBJECT.create(&mut ledger, [2, 1, 1, 3_600, 0]), 0);
+        let list = [post(1), post(2), submit(10, 1), submit(20, path)];
+        let mut answers = [UNWRITTEN; 4];
+        assert_eq!(SUBJECT.batch(&mut ledger, &mut postings, &[100], &list, &mut answers), 0);
+        assert_eq!(answers.map(|answer| answer.number), [0; 4]);
+        assert_eq!(desks::between(&ledger, 1, 2), between);
+        let (one, other) = (accept(1), accept(2));
+        let either = desks::Either::order(SUBJECT, &ledger, &postings, &one, &other)
+            .expect("lists of one are answered");
+        let [second_of_one, second_of_other] = match between {
+            Apart => [confirmed(1), confirmed(2)],
+            _ => [refused; 2],
+        };
+        assert_eq!(either.one, [confirmed(1), second_of_one]);
+        assert_eq!(either.other, [confirmed(2), second_of_other]);
+        assert_eq!(either.ledgers[0] == either.ledgers[1], between == Apart);
+        assert_eq!(either.postings, [postings.clone(), postings]);
+        assert_eq!(either.difference().is_none(), between == Apart);
+    }
+}
+
+/// The orders need no model to find what is felt in a tree apart.
+#[test]
+fn either_order_alone_catches_what_crosses_trees() {
+    let orders = |subject: &dyn Rules| desks::either_order(subject, SEED, 1_000).err();
+    assert_eq!(orders(&Model), None);
+    let crossed: Vec<_> = FAULTS.iter().filter(|faulty| faulty.crossed).collect();
+    assert!(crossed.len() >= 14);
+    for faulty in crossed {
+        let told = orders(faulty);
+        assert!(told.is_some(), "not caught: {}", faulty.name);
+        println!("{}: {}", faulty.name, told.unwrap_or_default());
     }
 }
 

@@ -13,6 +13,13 @@ pub data Fit (t s g a d r w o : ℕ) : Type 0 where
   bent : On s → t ≡ 5 → (g ≡ a + d + r + o) × (w + o ≡ g) → Fit t s g a d r w o
   held : On s → (t ≢ 5) × (t ≢ 8) → (g ≡ a + d + r + o) × (w ≡ g) → Fit t s g a d r w o
 
+-- what a row holds, and what was reduced in it, was granted to it
+pub fit-most : {t s g a d r w o : ℕ} → Fit t s g a d r w o → a + d + r ≤ g
+fit-most (off x y) = omega arith
+fit-most (gone x z y) = omega arith
+fit-most (bent x z y) = omega arith
+fit-most (held x z y) = omega arith
+
 module _ {t s g a d r w o t' s' g' a' d' r' w' o' : ℕ} where
   -- nothing changes
   pub fit-same : Fit t s g a d r w o → t' ≡ t → s' ≡ s → g' ≡ g → a' ≡ a → d' ≡ d → r' ≡ r → w' ≡ w → o' ≡ o → Fit t' s' g' a' d' r' w' o'

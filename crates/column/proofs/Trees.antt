@@ -59,11 +59,11 @@ module _ (m o : ℕ) (ref : ℕ → ℕ) (b : ℕ → Bool) (v x : ℕ → ℕ) 
       point = sum-point m o f h l (λ i k. ap (λ z. gate z (v i)) (closed i ∙ ap (λ z. either z (up b (ref i))) (eqb-other k)))
 
 -- the test of descent
-up-ext : (f h : ℕ → Bool) (r : ℕ) → ((p : ℕ) → r ≡ suc p → f p ≡ h p) → up f r ≡ up h r
+pub up-ext : (f h : ℕ → Bool) (r : ℕ) → ((p : ℕ) → r ≡ suc p → f p ≡ h p) → up f r ≡ up h r
 up-ext f h zero e = refl
 up-ext f h (suc p) e = e p refl
 
-either-false : (b : Bool) → either b false ≡ b
+pub either-false : (b : Bool) → either b false ≡ b
 either-false true = refl
 either-false false = refl
 

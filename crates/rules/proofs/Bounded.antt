@@ -63,7 +63,7 @@ module _ (H p : ℕ) (r : List ℕ) where
       (lt-or-le (h - start r) (length (span H p r)))
 
 -- available, displaced or reduced
-any-of : (P : ℕ → Type 0) → P availablePart → P displacedPart → P reducedPart → (p : ℕ) → availablePart ≤ p → p < profiles → P p
+pub any-of : (P : ℕ → Type 0) → P availablePart → P displacedPart → P reducedPart → (p : ℕ) → availablePart ≤ p → p < profiles → P p
 any-of P a d c p low high = go (ℕ-discrete p availablePart) (ℕ-discrete p displacedPart)
   where
     go : Dec (p ≡ availablePart) → Dec (p ≡ displacedPart) → P p

@@ -18,7 +18,7 @@ use Rattle.rules.specs.Confirming.{held, emptied, confirm, unconfirmed, 
 use Rattle.rules.specs.Tally.{Entry, Tally, grantedIn, changed, counts, feed}
 use Rattle.rules.specs.declared.Action.{Action}
 use Rattle.rules.specs.declared.Answer.{Answer}
-use Rattle.rules.proofs.SoundFacts.{SoundLedger, SoundWords, SoundRelation}
+use Rattle.rules.proofs.SoundFacts.{SoundWords, SoundRelation}
 use Rattle.rules.proofs.Rows.{row-length}
 use Rattle.rules.proofs.Formed.{Formed}
 use Rattle.rules.proofs.Leaves.{Kin, Leaves}
@@ -74,17 +74,17 @@ module _ {B : ℕ → ℕ → ℕ} {l : List ℕ} {t : Tally} (G : Good B l t) {
   agreed {r} A = subst (λ (q : ℕ). Agrees H r (fed q)) reference (agrees-like (fed-own a w answer t count later) A)
 
   -- with each hour's column in order after it
-  pub follow-good : {l′ r : List ℕ} → SoundLedger l′ → Leaves (rows l) H l l′ n r → Agrees H r own → ((h : ℕ) → h < H → Ordered (B h) (view H h l′ (outOf fed h) (redOf fed h))) → Good B l′ fed
+  pub follow-good : {l′ r : List ℕ} → Formed l′ → Leaves (rows l) H l l′ n r → Agrees H r own → ((h : ℕ) → h < H → Ordered (B h) (view H h l′ (outOf fed h) (redOf fed h))) → Good B l′ fed
   follow-good S L A K = good-leaves G lt S L (agreed A) others K
 
   -- with a step of each hour's column
-  pub step-good : {l′ r : List ℕ} → SoundLedger l′ → Leaves (rows l) H l l′ n r → Agrees H r own
+  pub step-good : {l′ r : List ℕ} → Formed l′ → Leaves (rows l) H l l′ n r → Agrees H r own
       → ((h : ℕ) → h < H → Step (B h) (viewOf H h l t) (view H h l′ (outOf fed h) (redOf fed h))) → Good B l′ fed
   step-good S L A K = follow-good S L A (λ h hlt. stepped (K h hlt) (ordered G h hlt))
 
   -- with a confirmation, after a write in the row or none
   module _ (five : a .kind ≢ 5) (before : answer .before ≢ CONFIRMED) (at : answer .after ≡ CONFIRMED) {l1 r1 : List ℕ} (Y : Ready B l l1 t n r1) (mw : List ℕ) (long : length mw ≡ spanHours r1)
-      (c9 : unconfirmed H l1 n ≡ false) (c14 : short H l1 n mw ≡ false) (S : SoundLedger (confirm H n mw l1)) (T : (h : ℕ) → h < H → Tested (B h) (view H h l (outOf t h) (redOf t h)) (view H h (confirm H n mw l1) (outOf fed h) (redOf fed h)) n) (A : Agrees H (confirmedRow H mw r1) own) where
+      (c9 : unconfirmed H l1 n ≡ false) (c14 : short H l1 n mw ≡ false) (S : Formed (confirm H n mw l1)) (T : (h : ℕ) → h < H → Tested (B h) (view H h l (outOf t h) (redOf t h)) (view H h (confirm H n mw l1) (outOf fed h) (redOf fed h)) n) (A : Agrees H (confirmedRow H mw r1) own) where
     abbrev l2 : List ℕ
     l2 = confirm H n mw l1
 

@@ -119,7 +119,7 @@ module _ {B : ℕ → ℕ → ℕ} {l : List ℕ} {t : Tally} (G : Good B l t) (
     rebid-kept e S answer A =
         let E = own-agrees G a (P .reference .0) (P .reference .1) w A later in
         let m = spanned G a (P .reference .0) (P .reference .1) in
-        readied-good G a (P .reference .0) (P .reference .1) w A later five (move .before .0) Y (λ z. omega (arith, z, e), λ z. omega (arith, z, e)) (S .sound)
+        readied-good G a (P .reference .0) (P .reference .1) w A later five (move .before .0) Y (λ z. omega (arith, z, e), λ z. omega (arith, z, e)) (S .formed)
         (λ f. bidden-agrees E m a w answer k o (Q .profile) (a .status) f (bid-unsettled (a .status) (inl e)))
 
     bid-kept : Kept (bidAfter H l w a)
@@ -140,7 +140,7 @@ module _ {B : ℕ → ℕ → ℕ} {l : List ℕ} {t : Tally} (G : Good B l t) (
       let now : status (row H (onRow H n (setStatus (a .status)) l) n) ≡ a .status = ap status (L .own) ∙ set-status r (a .status) H (s .long) in
       let after : answer .after ≡ a .status = A .after ∙ now in
       let is14 = withdraws (move .after) (no-bid a o) in
-      stepped-good G a (P .reference .0) (P .reference .1) w A later (S .sound) L (status-agrees E m a w answer (a .status) after (bid-unsettled (a .status) (inr is14)) (inr o) (inl (λ z. omega (arith, z, k))))
+      stepped-good G a (P .reference .0) (P .reference .1) w A later (S .formed) L (status-agrees E m a w answer (a .status) after (bid-unsettled (a .status) (inr is14)) (inr o) (inl (λ z. omega (arith, z, k))))
       (λ h hlt. status-step F lt (move .before) hlt (outOf t h) (outOf (feed a w answer t) h) (redOf t h) (redOf (feed a w answer t) h) (a .status) (λ z. omega (arith, z, is14), λ z. omega (arith, z, is14))
       (record { out = λ j m. fed-quiet a w answer t (answer-counts A (P .reference .0)) later (λ z. omega (arith, z, after, is14)) (inl (λ z. move .before .0 (sym (A .before) ∙ z))) five h j m })
       (record { red = λ m. fed-red a w answer t (answer-counts A (P .reference .0)) later five h m }))

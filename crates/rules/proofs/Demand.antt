@@ -1,46 +1,33 @@
 -- DEMAND 3: every list of calls from a fresh ledger balances. PATH LIMITS: and no use of a path exceeds its posting.
 use mathlib.Core.Path.{_≡_, refl, sym, ap, subst, _∙_}
-use mathlib.Core.Logic.{_≢_, _⊎_, inl, inr}
-use mathlib.Core.Bool.{Bool, true, false, _&&_, _||_, not}
+use mathlib.Core.Bool.{Bool, true, false, _&&_, _||_}
 use mathlib.Core.List.{List}
-use Prim.Native.Nat.{ℕ, suc, _+_, _≤_, _<_}
+use Prim.Native.Nat.{ℕ}
 use native.Mathlib.Decide.{ℕ-discrete}
 use native.Mathlib.Omega.{arith}
-use borrow.Author.Tests.{eqb-true, eq-eqb, ne-eqb}
+use borrow.Author.Tests.{eqb-true, eq-eqb}
 use lib.Dec.{eqb}
-use Rattle.rules.specs.Pick.{pick, _gives_else_, _isFrom_to_}
-use Rattle.rules.specs.Numbers.{entity}
-use Rattle.rules.specs.Layout.{hours, used, row, status}
+use Rattle.rules.specs.Pick.{pick}
+use Rattle.rules.specs.Layout.{hours}
 use Rattle.rules.specs.Sound.{sound}
-use Rattle.rules.specs.Submit.{submitAfter}
-use Rattle.rules.specs.SellerStatus.{sellerAfter}
-use Rattle.rules.specs.CustomerStatus.{customerAfter}
-use Rattle.rules.specs.Approve.{approveAfter}
-use Rattle.rules.specs.Reduce.{reduceAfter}
-use Rattle.rules.specs.Lapse.{lapseAfter}
-use Rattle.rules.specs.Clock.{clockAfter}
-use Rattle.rules.specs.Checks.{named, namedRow}
 use Rattle.rules.specs.Paths.{soundPostings, postedIn, unposted, overPosted}
 use Rattle.rules.specs.Post.{posted}
 use Rattle.rules.specs.Calls.{Run, Call, runCalls}
 use Rattle.rules.specs.Create.{goodNumbers, fresh}
-use Rattle.rules.specs.Act.{byKind, kindNumber, kindAfter, postingsAfter, commonNumber, overUse, number, refusal, acceptance, answered, Outcome, refused, accepted, step, soundBoth, outcome}
+use Rattle.rules.specs.Act.{kindAfter, postingsAfter, commonNumber, overUse, number, refusal, acceptance, answered, Outcome, refused, accepted, step, soundBoth, outcome}
 use Rattle.rules.specs.Tally.{Tally, counts, feed}
 use Rattle.rules.specs.declared.Action.{Action}
 use Rattle.rules.proofs.View.{outOf, redOf}
-use Rattle.rules.proofs.SoundFacts.{SoundLedger, facts-sound}
-use Rattle.rules.proofs.Passed.{PostPassed, submit-passed, seller-status-passed, customer-status-passed, approve-passed, reduce-passed, lapse-passed, clock-passed, post-passed}
+use Rattle.rules.proofs.SoundFacts.{facts-sound}
+use Rattle.rules.proofs.Passed.{PostPassed, post-passed}
 use Rattle.rules.proofs.Posts.{SoundPostings, postings-facts, posted-other}
-use Rattle.rules.proofs.Tests.{use-column, within-posting, Left, tests, over-posting, over-named}
-use Rattle.rules.proofs.Soundness.{number-passed, sound-next, head-next, kind-passed, number-of}
+use Rattle.rules.proofs.Tests.{use-column, within-posting, tests, over-posting, over-named}
+use Rattle.rules.proofs.Soundness.{NumberPassed, number-passed, head-next, number-of, after-of, postings-stay}
 use Rattle.rules.proofs.TallyLaws.{feed-none}
 use Rattle.rules.proofs.Good.{Good}
 use Rattle.column.proofs.Uses.{post-within}
-use Rattle.rules.proofs.Answers.{named-answer, submit-answer}
-use Rattle.rules.proofs.SubmitGood.{submit-good}
-use Rattle.rules.proofs.SellerGood.{seller-good}
-use Rattle.rules.proofs.CustomerGood.{customer-good}
-use Rattle.rules.proofs.ProviderGood.{approve-good, reduce-good, lapse-good, clock-good}
+use Rattle.rules.proofs.Keeping.{good-within}
+use Rattle.rules.proofs.KindGood.{Tests, kind-good}
 use Rattle.rules.proofs.FreshGood.{fresh-good}
 use Rattle.rules.proofs.Lists.{calls-keep}
 use Rattle.rules.proofs.Balanced.{balanced}
@@ -48,81 +35,22 @@ use Rattle.rules.specs.Balance.{Demand3}
 use Rattle.rules.specs.Limits.{UseWithin, PathLimits}
 use Rattle.rules.specs.Tally.{noEntries, tally, tallyFrom}
 
-past : {m k : ℕ} → k ≢ m → m ≤ k → suc m ≤ k
-past ne le = omega (arith, ne)
-
-last : {k : ℕ} → k ≤ 8 → 8 ≤ k → k ≡ 8
-last p q = omega arith
-
 -- what is posted, by hour and path
 abbrev pub bound : ℕ → List ℕ → ℕ → ℕ → ℕ
 bound H ps h x = postedIn H ps x h
 
--- ---- an accepted action, by its kind
+-- ---- an accepted action
 module _ {l ps : List ℕ} {t : Tally} (G : Good (bound (hours l) ps) l t) (S : SoundPostings (hours l) ps) (w : List ℕ) (a : Action) (e : number true l ps w a ≡ 0) where
   abbrev H : ℕ
   H = hours l
 
-  -- what is to be shown, of the ledger that the kind leaves
-  abbrev Kept : List ℕ → Type 0
-  Kept next = Good (bound H ps) next (feed a w (answered H l w a next) t)
+  N : NumberPassed l ps w a
+  N = number-passed l ps w a e
 
-  passed : {n : ℕ} → kindNumber H l w a ≡ n → n ≡ 0
-  passed q = sym q ∙ number-passed l ps w a e .kind
-
-  by-kind : {n : ℕ} {next : List ℕ} → kindNumber H l w a ≡ n → kindAfter H l w a ≡ next → (n ≡ 0 → SoundLedger next → Kept next) → Kept (kindAfter H l w a)
-  by-kind p q f = subst Kept (sym q) (f (passed p) (subst SoundLedger q (sound-next (G .sound) ps w a e)))
-
-  after-of : {k : ℕ} → a .kind ≡ k → kindAfter H l w a ≡ byKind k (submitAfter H l w a) (sellerAfter H l w a) (customerAfter H l w a) (approveAfter H l a) (reduceAfter H l w a) (lapseAfter H l a) (clockAfter l a) l
-  unfolding kindAfter
-  after-of q = ap (λ (k : ℕ). byKind k (submitAfter H l w a) (sellerAfter H l w a) (customerAfter H l w a) (approveAfter H l a) (reduceAfter H l w a) (lapseAfter H l a) (clockAfter l a) l) q
-
-  apart : {k m : ℕ} → a .kind ≡ k → (k ≡ m → ⊥) → a .kind ≢ m
-  apart q ne z = ne (sym q ∙ z)
-
-  -- only a posting alters the postings
-  unaltered : a .kind ≢ 8 → postingsAfter H ps w a ≡ ps
-  unfolding postingsAfter
-  unaltered ne = ap (λ (b : Bool). pick b (posted H ps w a) ps) (ne-eqb (a .kind) 8 ne)
-
-  -- of an action that names its row: the paths are tested
-  left : a .kind ≢ 1 → a .kind ≢ 8 → (1 ≤ a .reference) × (a .reference ≤ used l) → {next : List ℕ} → kindAfter H l w a ≡ next → SoundLedger next
-      → Left (bound H ps) l next (named a) (status (namedRow H l a)) (status (row H next (named a)))
-  left n1 n8 i {next} q s =
-      let f = subst (λ (x : List ℕ). overUse H l a next x ≡ false) (unaltered n8) (subst (λ (x : List ℕ). overUse H l a x (postingsAfter H ps w a) ≡ false) q (number-passed l ps w a e .paths)) in
-      record {
-        sound = s;
-        tested = λ r h hlt out out′ red red′. tests (G .sound) (omega (arith, i .0, i .1)) next ps (over-named H l a next ps f n1 n8 r) h hlt out out′ red red′;
-      }
-
-  submitted : a .kind ≡ 1 → Kept (kindAfter H l w a)
-  submitted q = by-kind (number-of H l w a q) (after-of q) (λ n s. submit-good G w a (submit-passed H l w a n) s (submit-answer H l w a (submitAfter H l w a) (apart q (λ z. omega (arith, z))) (apart q (λ z. omega (arith, z))) q) q)
-
-  sold : a .kind ≡ 2 → Kept (kindAfter H l w a)
-  sold q =
-      by-kind (number-of H l w a q) (after-of q)
-      (λ n s. let P = seller-status-passed H l w a n in seller-good G w a P (left (apart q (λ z. omega (arith, z))) (apart q (λ z. omega (arith, z))) (P .reference) (after-of q) s) (named-answer H l w a (sellerAfter H l w a) (apart q (λ z. omega (arith, z))) (apart q (λ z. omega (arith, z))) (apart q (λ z. omega (arith, z)))) q)
-
-  bought : a .kind ≡ 3 → Kept (kindAfter H l w a)
-  bought q =
-      by-kind (number-of H l w a q) (after-of q)
-      (λ n s. let P = customer-status-passed H l w a n in customer-good G w a P (left (apart q (λ z. omega (arith, z))) (apart q (λ z. omega (arith, z))) (P .reference) (after-of q) s) (named-answer H l w a (customerAfter H l w a) (apart q (λ z. omega (arith, z))) (apart q (λ z. omega (arith, z))) (apart q (λ z. omega (arith, z)))) q)
-
-  approves : a .kind ≡ 4 → Kept (kindAfter H l w a)
-  approves q =
-      by-kind (number-of H l w a q) (after-of q)
-      (λ n s. let P = approve-passed H l a n in approve-good G w a P (left (apart q (λ z. omega (arith, z))) (apart q (λ z. omega (arith, z))) (P .reference) (after-of q) s) (named-answer H l w a (approveAfter H l a) (apart q (λ z. omega (arith, z))) (apart q (λ z. omega (arith, z))) (apart q (λ z. omega (arith, z)))) q)
-
-  reduces : a .kind ≡ 5 → Kept (kindAfter H l w a)
-  reduces q = by-kind (number-of H l w a q) (after-of q) (λ n s. reduce-good G w a (reduce-passed H l w a n) s (named-answer H l w a (reduceAfter H l w a) (apart q (λ z. omega (arith, z))) (apart q (λ z. omega (arith, z))) (apart q (λ z. omega (arith, z)))) q)
-
-  lapses : a .kind ≡ 6 → Kept (kindAfter H l w a)
-  lapses q =
-      by-kind (number-of H l w a q) (after-of q)
-      (λ n s. let P = lapse-passed H l a n in lapse-good G w a P (left (apart q (λ z. omega (arith, z))) (apart q (λ z. omega (arith, z))) (P .reference) (after-of q) s) (named-answer H l w a (lapseAfter H l a) (apart q (λ z. omega (arith, z))) (apart q (λ z. omega (arith, z))) (apart q (λ z. omega (arith, z)))) q)
-
-  ticks : a .kind ≡ 7 → Kept (kindAfter H l w a)
-  ticks q = by-kind (number-of H l w a q) (after-of q) (λ n s. clock-good G w a s q)
+  tested : Tests G w a (N .common) (N .kind) (kindAfter H l w a)
+  tested n1 n8 i r h hlt out out′ red red′ =
+      let f = subst (λ (x : List ℕ). overUse H l a (kindAfter H l w a) x ≡ false) (postings-stay H ps w a n8) (N .paths) in
+      tests (G .sound) (omega (arith, i .0, i .1)) (kindAfter H l w a) ps (over-named H l a (kindAfter H l w a) ps f n1 n8 r) h hlt out out′ red red′
 
   -- a posting leaves the ledger as it is; the path posted is tested, the others' postings stay, and the answer is not
   -- counted
@@ -130,56 +58,34 @@ module _ {l ps : List ℕ} {t : Tally} (G : Good (bound (hours l) ps) l t) (S : 
   unfolding postingsAfter answered refusal counts
   posts q =
       subst (λ (x : List ℕ). Good (bound H x) (kindAfter H l w a) (feed a w (answered H l w a (kindAfter H l w a)) t)) (sym is-posted)
-      (subst (λ (x : List ℕ). Good (bound H (posted H ps w a)) x (feed a w (answered H l w a x) t)) (sym (after-of q))
+      (subst (λ (x : List ℕ). Good (bound H (posted H ps w a)) x (feed a w (answered H l w a x) t)) (sym (after-of H l w a q))
       (subst (λ (u : Tally). Good (bound H (posted H ps w a)) l u) (sym (feed-none a w _ t none))
-      (record {
-        sound = G .sound;
-        good = record {
-          entries = G .good .entries;
-          others = G .good .others;
-          columns = λ h hlt. let C = G .good .columns h hlt in record {
-            shape = C .shape;
-            inv = C .inv;
-            within = post-within (a .path) (λ y least ne. posted-other S P y h least hlt ne)
-                (omega (arith, use-column H h l (outOf t h) (redOf t h) (a .path), within-posting H l (posted H ps w a) (a .path) h over hlt)) (C .within);
-          };
-        };
-      })))
+      (good-within G (λ h hlt.
+      post-within (a .path) (λ y least ne. posted-other S P y h least hlt ne)
+      (omega (arith, use-column H h l (outOf t h) (redOf t h) (a .path), within-posting H l (posted H ps w a) (a .path) h over hlt)) (G .good .columns h hlt .within)))))
     where
       is-posted : postingsAfter H ps w a ≡ posted H ps w a
       is-posted = ap (λ (b : Bool). pick b (posted H ps w a) ps) (eq-eqb (a .kind) 8 q)
 
       P : PostPassed H w a
-      P = post-passed H l w a (passed (number-of H l w a q))
+      P = post-passed H l w a (sym (number-of H l w a q) ∙ N .kind)
 
       over : overPosted H l (posted H ps w a) (a .path) ≡ false
       over =
           over-posting H l a l (posted H ps w a)
-          (subst (λ (x : List ℕ). overUse H l a l x ≡ false) is-posted (subst (λ (x : List ℕ). overUse H l a x (postingsAfter H ps w a) ≡ false) (after-of q) (number-passed l ps w a e .paths))) q
+          (subst (λ (x : List ℕ). overUse H l a l x ≡ false) is-posted (subst (λ (x : List ℕ). overUse H l a x (postingsAfter H ps w a) ≡ false) (after-of H l w a q) (N .paths))) q
 
       none : counts (answered H l w a l) ≡ false
       none = ap (λ (k : ℕ). counts (pick (eqb k 7 || eqb k 8) (refusal 0) (acceptance H l w a l))) q
 
   accepted-good : Good (bound H (postingsAfter H ps w a)) (kindAfter H l w a) (feed a w (answered H l w a (kindAfter H l w a)) t)
-  accepted-good = go (ℕ-discrete (a .kind) 1) (ℕ-discrete (a .kind) 2) (ℕ-discrete (a .kind) 3) (ℕ-discrete (a .kind) 4) (ℕ-discrete (a .kind) 5) (ℕ-discrete (a .kind) 6) (ℕ-discrete (a .kind) 7)
+  accepted-good = go (ℕ-discrete (a .kind) 8)
     where
-      -- of the kinds that alter no posting
-      same : {k : ℕ} → a .kind ≡ k → (k ≡ 8 → ⊥) → Kept (kindAfter H l w a) → Good (bound H (postingsAfter H ps w a)) (kindAfter H l w a) (feed a w (answered H l w a (kindAfter H l w a)) t)
-      same q ne g = subst (λ (x : List ℕ). Good (bound H x) (kindAfter H l w a) (feed a w (answered H l w a (kindAfter H l w a)) t)) (sym (unaltered (apart q ne))) g
-
-      go : Dec (a .kind ≡ 1) → Dec (a .kind ≡ 2) → Dec (a .kind ≡ 3) → Dec (a .kind ≡ 4) → Dec (a .kind ≡ 5) → Dec (a .kind ≡ 6) → Dec (a .kind ≡ 7) → Good (bound H (postingsAfter H ps w a)) (kindAfter H l w a) (feed a w (answered H l w a (kindAfter H l w a)) t)
-      go (yes q) d2 d3 d4 d5 d6 d7 = same q (λ z. omega (arith, z)) (submitted q)
-      go (no n1) (yes q) d3 d4 d5 d6 d7 = same q (λ z. omega (arith, z)) (sold q)
-      go (no n1) (no n2) (yes q) d4 d5 d6 d7 = same q (λ z. omega (arith, z)) (bought q)
-      go (no n1) (no n2) (no n3) (yes q) d5 d6 d7 = same q (λ z. omega (arith, z)) (approves q)
-      go (no n1) (no n2) (no n3) (no n4) (yes q) d6 d7 = same q (λ z. omega (arith, z)) (reduces q)
-      go (no n1) (no n2) (no n3) (no n4) (no n5) (yes q) d7 = same q (λ z. omega (arith, z)) (lapses q)
-      go (no n1) (no n2) (no n3) (no n4) (no n5) (no n6) (yes q) = same q (λ z. omega (arith, z)) (ticks q)
-      go (no n1) (no n2) (no n3) (no n4) (no n5) (no n6) (no n7) =
-          let k = kind-passed a (number-passed l ps w a e .common) in
-          let three : 4 ≤ a .kind = past n3 (past n2 (past n1 (k .0))) in
-          let seven : 8 ≤ a .kind = past n7 (past n6 (past n5 (past n4 three))) in
-          posts (last (k .1) seven)
+      go : Dec (a .kind ≡ 8) → Good (bound H (postingsAfter H ps w a)) (kindAfter H l w a) (feed a w (answered H l w a (kindAfter H l w a)) t)
+      go (yes q) = posts q
+      go (no n8) =
+          subst (λ (x : List ℕ). Good (bound H x) (kindAfter H l w a) (feed a w (answered H l w a (kindAfter H l w a)) t)) (sym (postings-stay H ps w a n8))
+          (kind-good G w a (N .common) (N .kind) tested n8)
 
 -- ---- every action, accepted or refused
 none-counted : (n : ℕ) → eqb n 0 ≡ false → counts (refusal n) ≡ false

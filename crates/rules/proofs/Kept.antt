@@ -560,7 +560,7 @@ pub fitting-profile : {w : List ℕ} {a : Action} (r : List ℕ) → ProfilePass
 fitting-profile r p = record { counted = profile-length p; most = p .most }
 
 module _ {H : ℕ} {r : List ℕ} (o : Same H r r) where
-  spanned : Spanned H r
+  pub spanned : Spanned H r
   spanned = record { long = o .long; starts = omega (arith, o .words .starts); stops = o .words .stops }
 
   pub fitting-span : (p : ℕ) → p < availablePart → Fitting (span H p r) r

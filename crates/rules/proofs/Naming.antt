@@ -21,7 +21,7 @@ use Rattle.rules.specs.declared.Action.{Action}
 use Rattle.rules.specs.declared.Answer.{Answer}
 use Rattle.rules.proofs.Rows.{row-length}
 use Rattle.rules.proofs.Seen.{Room}
-use Rattle.rules.proofs.SoundFacts.{SoundLedger, SoundWords, sized}
+use Rattle.rules.proofs.SoundFacts.{SoundWords, sized}
 use Rattle.rules.proofs.Formed.{Formed, formed}
 use Rattle.rules.proofs.Leaves.{Leaves}
 use Rattle.rules.proofs.View.{view, viewOf, outOf, redOf}
@@ -83,7 +83,7 @@ module _ {B : ℕ → ℕ → ℕ} {l : List ℕ} {t : Tally} (G : Good B l t) (
     own-agrees = subst (λ (q : ℕ). Agrees (hours l) (namedRow (hours l) l a) (t q)) (sym is-reference) (G .good .entries (named a) is-used)
 
     -- one step of each hour's column
-    pub stepped-good : {l′ r : List ℕ} → SoundLedger l′ → Leaves (rows l) (hours l) l l′ (named a) r → Agrees (hours l) r (entryAfter a w answer t)
+    pub stepped-good : {l′ r : List ℕ} → Formed l′ → Leaves (rows l) (hours l) l l′ (named a) r → Agrees (hours l) r (entryAfter a w answer t)
         → ((h : ℕ) → h < hours l → Step (B h) (viewOf (hours l) h l t) (view (hours l) h l′ (outOf (feed a w answer t) h) (redOf (feed a w answer t) h))) → Good B l′ (feed a w answer t)
     stepped-good = step-good G is-used a w answer (answer-counts A low) later is-reference
 
@@ -92,7 +92,7 @@ module _ {B : ℕ → ℕ → ℕ} {l : List ℕ} {t : Tally} (G : Good B l t) (
         → unconfirmed (hours l) l1 (named a) ≡ false → short (hours l) l1 (named a) mw ≡ false → Left B l (confirm (hours l) (named a) mw l1) (named a) old new
         → Agrees (hours l) (confirmedRow (hours l) mw r1) (entryAfter a w answer t) → Good B (confirm (hours l) (named a) mw l1) (feed a w answer t)
     confirmed-good five before after Y mw long c9 c14 S =
-        confirm-good G is-used a w answer (answer-counts A low) later is-reference five (λ e. before (sym (A .before) ∙ e)) (A .after ∙ after) Y mw long c9 c14 (S .sound)
+        confirm-good G is-used a w answer (answer-counts A low) later is-reference five (λ e. before (sym (A .before) ∙ e)) (A .after ∙ after) Y mw long c9 c14 (S .formed)
         (λ h hlt. S .tested (takes-confirmed old new before after) h hlt _ _ _ _)
 
 -- the row that is confirmed from a ledger that is ready is CONFIRMED
@@ -108,7 +108,7 @@ ready-status {B} {l} {l1} G {n} lt {r1} Y mw long room =
 -- a status is set in a ledger that is ready, and the row stays neither CONFIRMED nor DISPLACED
 pub readied-good : {B : ℕ → ℕ → ℕ} {l : List ℕ} {t : Tally} (G : Good B l t) (a : Action) (low : 1 ≤ a .reference) (high : a .reference ≤ used l) (w : List ℕ) {l1 r1 : List ℕ} {answer : Answer} {old : ℕ} {s : ℕ}
     → AnswerOf answer (a .reference) old (status (row (hours l) (onRow (hours l) (named a) (setStatus s) l1) (named a))) → a .kind ≢ 1 → a .kind ≢ 5 → old ≢ CONFIRMED
-    → Ready B l l1 t (named a) r1 → Off s → SoundLedger (onRow (hours l) (named a) (setStatus s) l1)
+    → Ready B l l1 t (named a) r1 → Off s → Formed (onRow (hours l) (named a) (setStatus s) l1)
     → (answer .after ≡ s → Agrees (hours l) (setStatus s r1) (entryAfter a w answer t)) → Good B (onRow (hours l) (named a) (setStatus s) l1) (feed a w answer t)
 readied-good {B} {l} {t} G a low high w {l1} {r1} {answer} {old} {s} A later five before Y off S E =
     let lt = is-used G a low high in

@@ -3,14 +3,14 @@ use mathlib.Core.Path.{_≡_, refl, sym, ap, _∙_}
 use mathlib.Core.Logic.{_≢_}
 use mathlib.Core.Bool.{Bool, true, false, _&&_, _||_, not}
 use mathlib.Core.List.{List}
-use Prim.Native.Nat.{ℕ, suc, _+_, _-_, _≤_, _<_}
+use Prim.Native.Nat.{ℕ, _+_, _-_, _≤_, _<_}
 use native.Mathlib.Numerals.{add-one}
 use native.Mathlib.Omega.{arith}
 use lib.Dec.{eqb}
 use lib.IntN.{ℤ}
 use borrow.Author.Tests.{eq-eqb, eqb-false, not-true}
 use Rattle.words.specs.Lists.{sumBelow}
-use Rattle.words.proofs.Laws.{and-left, and-right, all-below, sum-cong}
+use Rattle.words.proofs.Laws.{and-left, and-right, all-below}
 use Rattle.column.specs.Sum.{gate, sumTo}
 use Rattle.column.specs.Column.{Col}
 use Rattle.column.specs.Demand.{inside}
@@ -19,16 +19,17 @@ use Rattle.column.proofs.Opening.{row-sum}
 use Rattle.column.proofs.Final.{demand3-of}
 use Rattle.rules.specs.Pick.{pick}
 use Rattle.rules.specs.Numbers.{RELINQUISH}
-use Rattle.rules.specs.Layout.{hours, used, rowOf, row, reqtype, status, related}
+use Rattle.rules.specs.Layout.{hours, used, row, reqtype, status, related}
 use Rattle.rules.specs.Sound.{original, redirect}
 use Rattle.rules.specs.Tally.{Tally}
-use Rattle.rules.specs.Balance.{live, descendsWithin, descends}
+use Rattle.rules.specs.Balance.{live}
 use Rattle.rules.specs.Open.{grantedOf, heldOf, stands, drawsOn, redirectOn, relinquishOn, drawn, relinquished, takenOff, rowBalances, inTree, treeBalances, hasEquation, hasTree, balancedRow, balancedTree, unbalanced, openNumber, AlwaysOpens}
 use Rattle.rules.proofs.SoundFacts.{facts-sound}
 use Rattle.rules.proofs.View.{view, outOf, redOf}
 use Rattle.rules.proofs.Good.{Good}
 use Rattle.rules.proofs.Tests.{sums, picked}
-use Rattle.rules.proofs.Balanced.{live-is, original-is, enough}
+use Rattle.rules.proofs.Balanced.{live-is, original-is}
+use Rattle.rules.proofs.Trees.{tree-inside}
 use Rattle.rules.proofs.Demand.{calls-good}
 
 -- ---- the sums of the rows in an hour are those of the hour's column
@@ -65,23 +66,11 @@ module _ (H h : ℕ) (l : List ℕ) (out : ℕ → ℕ → ℤ) (red : ℕ → �
       ∙ ap (λ (b : Bool). gate b (relinquished H l h c)) (redirect-column n c)
       ∙ ap (gate (Column.redirectOn S n c)) (relinquished-column c))
 
-  -- descent, of rows whose related row stands before them
-  module _ (lower : (n : ℕ) → related (row H l n) ≤ n) where
-    tree-inside : (o n : ℕ) → n < used l → inTree H l o n ≡ inside (S .ref) o n
-    unfolding inTree descends
-    tree-inside o n lt =
-        ap (λ (k : ℕ). descendsWithin (suc (n + 1)) ref k (n + 1)) (add-one o)
-        ∙ ap (λ (k : ℕ). descendsWithin (suc k) ref (suc o) k) (add-one n)
-        ∙ enough ref (S .ref) (used l) o (λ i ilt. ap (λ (k : ℕ). related (row H l k)) (let e : suc i - 1 ≡ i = omega arith in e)) lower n lt
-      where
-        ref : ℕ → ℕ
-        ref r = related (row H l (rowOf r))
-
-    tree-column : (o : ℕ) → sumBelow (used l) (λ n. pick (inTree H l o n) (heldOf H l h n) 0) ≡ sumTo (used l) (λ n. gate (inside (S .ref) o n) (S .a n + S .d n + S .r n))
-    unfolding heldOf
-    tree-column o =
-        sum-cong (used l) _ _ (λ n lt. picked (inTree H l o n) _ ∙ ap (λ (b : Bool). gate b (S .a n + S .d n + S .r n)) (tree-inside o n lt))
-        ∙ sums (used l) _ _ (λ n. refl)
+  -- of rows whose related row stands before them
+  tree-column : ((n : ℕ) → related (row H l n) ≤ n) → (o : ℕ) → sumBelow (used l) (λ n. pick (inTree H l o n) (heldOf H l h n) 0) ≡ sumTo (used l) (λ n. gate (inside (S .ref) o n) (S .a n + S .d n + S .r n))
+  unfolding heldOf
+  tree-column lower o =
+      sums (used l) _ _ (λ n. picked (inTree H l o n) _ ∙ ap (λ (b : Bool). gate b (S .a n + S .d n + S .r n)) (tree-inside H l lower o n))
 
 -- ---- what is good opens
 passes : (b c : Bool) → (b ≡ true → c ≡ true) → (not b || c) ≡ true

@@ -102,3 +102,16 @@ goes b p q h = and-goes _ b _ (sym p ∙ q) h
 
 -- for a chain of tests of a Bool function
 pub ruleset chain = (and-stops, and-goes, or-stops, or-goes, or-last, told, compared)
+
+-- a conjunction, of which the second is looked at only where the first holds
+pub and-all : (b : Bool) {c : Bool} → b ≡ true → c ≡ true → (b && c) ≡ true
+and-all true e f = f
+and-all false e f = e
+
+pub and-fails : (b c : Bool) → (b ≡ true → c ≡ false) → (b && c) ≡ false
+and-fails true c f = f refl
+and-fails false c f = refl
+
+pub and-cong : (b : Bool) {c d : Bool} → (b ≡ true → c ≡ d) → (b && c) ≡ (b && d)
+and-cong true f = f refl
+and-cong false f = refl

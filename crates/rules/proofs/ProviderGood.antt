@@ -27,9 +27,8 @@ use Rattle.rules.specs.Tally.{Tally, counts, changed, feed}
 use Rattle.rules.specs.declared.Action.{Action}
 use Rattle.rules.specs.declared.Answer.{Answer}
 use Rattle.rules.proofs.Rows.{head-row}
-use Rattle.rules.proofs.SoundFacts.{SoundLedger}
 use Rattle.rules.proofs.Formed.{Formed, formed}
-use Rattle.rules.proofs.View.{view, outOf, redOf}
+use Rattle.rules.proofs.View.{view, viewOf, outOf, redOf}
 use Rattle.rules.proofs.Effects.{own-leaves, reduce-leaves, confirm-leaves, kin-reduced, inside-own}
 use Rattle.rules.proofs.Passed.{ApprovePassed, ReducePassed, LapsePassed, ConfirmPassed, confirm-passed, profile-length, waits-at, open-off, lapsing-off}
 use Rattle.rules.proofs.Placed.{placed}
@@ -42,7 +41,7 @@ use Rattle.rules.proofs.Kept.{same-self, same-approved, same-status}
 use Rattle.rules.proofs.TallyLaws.{entryAfter, feed-none, fed-red, fed-quiet, fed-reduced, fed-unreduced, fed-reduced-out}
 use Rattle.rules.proofs.Entries.{force-length, status-agrees, approved-agrees, reduced-agrees, lapsed-agrees, approved-start, approved-confirms}
 use Rattle.rules.proofs.Good.{Agrees, Ordered, GoodAt, Good}
-use Rattle.rules.proofs.Keeping.{stepped, ordered}
+use Rattle.rules.proofs.Keeping.{stepped, ordered, columns-sound}
 use Rattle.rules.proofs.Tests.{Left}
 use Rattle.rules.proofs.Answers.{AnswerOf, answer-counts}
 use Rattle.rules.proofs.Readying.{ready-self, ready-on}
@@ -93,7 +92,7 @@ module _ {B : ℕ → ℕ → ℕ} {l : List ℕ} {t : Tally} (G : Good B l t) (
       let now : status (row H (onRow H n (setStatus RETRACTED) l) n) ≡ RETRACTED = ap status (L .own) ∙ set-status r RETRACTED H (same-status (same-self F lapse-used) (omega arith) (omega arith) .long) in
       let after : answer .after ≡ RETRACTED = A .after ∙ now in
       let five : a .kind ≢ 5 = λ z. omega (arith, z, k) in
-      stepped-good G a (P .reference .0) (P .reference .1) w A later (S .sound) L
+      stepped-good G a (P .reference .0) (P .reference .1) w A later (S .formed) L
       (status-agrees E m a w answer RETRACTED after (λ z. omega (arith, z), λ z. omega (arith, z), λ z. omega (arith, z)) (inl (λ z. omega (arith, z, k))) (inl (λ z. omega (arith, z, k))))
       (λ h hlt. status-step F lapse-used lapse-off hlt (outOf t h) (outOf (feed a w answer t) h) (redOf t h) (redOf (feed a w answer t) h) RETRACTED (λ z. omega (arith, z), λ z. omega (arith, z))
       (record { out = λ k m. fed-quiet a w answer t (answer-counts A (P .reference .0)) later (λ z. omega (arith, z, after)) (inr (λ z. omega (arith, z, after))) five h k m })
@@ -154,7 +153,7 @@ module _ {B : ℕ → ℕ → ℕ} {l : List ℕ} {t : Tally} (G : Good B l t) (
       let L = own-leaves F approve-used (raise approved) (same-approved (same-self F approve-used) .long) in
       let now : status (row (hours l) (onRow (hours l) (named a) (raise approved) l) (named a)) ≡ status (namedRow (hours l) l a) = ap status (L .own) ∙ approved-calm (placed F approve-used) 0 .status in
       let after : answer .after ≡ status (namedRow (hours l) l a) = A .after ∙ now in
-      stepped-good G a (P .reference .0) (P .reference .1) w A later (S .sound) L (approved-agrees E m a w answer after k)
+      stepped-good G a (P .reference .0) (P .reference .1) w A later (S .formed) L (approved-agrees E m a w answer after k)
       (λ h hlt. approved-step F approve-used approve-off hlt (outOf t h) (outOf (feed a w answer t) h) (redOf t h) (redOf (feed a w answer t) h)
       (record { out = λ k m. fed-quiet a w answer t (answer-counts A (P .reference .0)) later (λ z. approve-off .0 (sym after ∙ z)) (inl (λ z. approve-off .0 (sym (A .before) ∙ z))) five h k m })
       (record { red = λ m. fed-red a w answer t (answer-counts A (P .reference .0)) later five h m }))
@@ -172,7 +171,7 @@ module _ {B : ℕ → ℕ → ℕ} {l : List ℕ} {t : Tally} (G : Good B l t) (
       go false q s x = approve-raises s x k
 
 -- ---- 5 Reduce
-pub reduce-good : {B : ℕ → ℕ → ℕ} {l : List ℕ} {t : Tally} → Good B l t → (w : List ℕ) (a : Action) → ReducePassed (hours l) l w a → SoundLedger (reduceAfter (hours l) l w a)
+pub reduce-good : {B : ℕ → ℕ → ℕ} {l : List ℕ} {t : Tally} → Good B l t → (w : List ℕ) (a : Action) → ReducePassed (hours l) l w a → Formed (reduceAfter (hours l) l w a)
     → {answer : Answer} → AnswerOf answer (a .reference) (status (namedRow (hours l) l a)) (status (row (hours l) (reduceAfter (hours l) l w a) (named a)))
     → a .kind ≡ 5 → Good B (reduceAfter (hours l) l w a) (feed a w answer t)
 unfolding reduceAfter changed
@@ -196,13 +195,13 @@ reduce-good {B} {l} {t} G w a P S {answer} A k =
     (λ m ne. fed-unreduced a w answer t count later before after k (named a) ref h m ne))
 
 -- ---- 7 Clock: a row is as it was, and the answer is not counted
-pub clock-good : {B : ℕ → ℕ → ℕ} {l : List ℕ} {t : Tally} → Good B l t → (w : List ℕ) (a : Action) → SoundLedger (clockAfter l a) → a .kind ≡ 7 → Good B (clockAfter l a) (feed a w (answered (hours l) l w a (clockAfter l a)) t)
+pub clock-good : {B : ℕ → ℕ → ℕ} {l : List ℕ} {t : Tally} → Good B l t → (w : List ℕ) (a : Action) → Formed (clockAfter l a) → a .kind ≡ 7 → Good B (clockAfter l a) (feed a w (answered (hours l) l w a (clockAfter l a)) t)
 unfolding answered refusal counts clockAfter
 clock-good {B} {l} {t} G w a S k =
     subst (λ (u : Tally). Good B l′ u)
     (sym (feed-none a w _ t (ap (λ (x : Answer). counts x) (ap (λ (b : Bool). pick (b || eqb (a .kind) 8) (refusal 0) (acceptance (hours l) l w a l′)) (eq-eqb (a .kind) 7 k)))))
     (record {
-      sound = S;
+      sound = columns-sound t S (subst (λ (H : ℕ). (h : ℕ) → h < H → Ordered (B h) (viewOf H h l′ t)) (sym (getD-set-other l 5 1 (a .time) 0 (λ e. omega (arith, e)))) moved);
       good = subst (λ (H : ℕ). GoodAt B H l′ t) (sym (getD-set-other l 5 1 (a .time) 0 (λ e. omega (arith, e))))
           (record {
             entries = λ n lt. subst (λ (r : List ℕ). Agrees (hours l) r (t (suc n))) (sym (same n)) (G .good .entries n (omega (arith, users)));

@@ -115,7 +115,7 @@ module _ {B : ℕ → ℕ → ℕ} {l : List ℕ} {t : Tally} (G : Good B l t) (
         let L = own-leaves F lt (offered H (clock l + window l) a mw) (same .long) in
         let now : status (row H (onRow H n (offered H (clock l + window l) a mw) l) n) ≡ a .status = ap status (L .own) ∙ offered-calm (placed F lt) 0 (clock l + window l) a mw long .status in
         let after : answer .after ≡ a .status = A .after ∙ now in
-        stepped-good G a (P .reference .0) (P .reference .1) w A later (S .sound) L (offered-agrees E m a w answer k o (Q .profile) (clock l + window l) after)
+        stepped-good G a (P .reference .0) (P .reference .1) w A later (S .formed) L (offered-agrees E m a w answer k o (Q .profile) (clock l + window l) after)
         (λ h hlt. offered-step F lt (offs .0) hlt (outOf t h) (outOf (feed a w answer t) h) (redOf t h) (redOf (feed a w answer t) h) (clock l + window l) a mw long (offs .1)
         (record { out = λ j m. fed-quiet a w answer t (answer-counts A (P .reference .0)) later (λ z. offs .1 .0 (sym after ∙ z)) (inl (λ z. offs .0 .0 (sym (A .before) ∙ z))) five h j m })
         (record { red = λ m. fed-red a w answer t (answer-counts A (P .reference .0)) later five h m }))
@@ -153,7 +153,7 @@ module _ {B : ℕ → ℕ → ℕ} {l : List ℕ} {t : Tally} (G : Good B l t) (
         let L = displace-leaves F lt in
         let now : status (row H (displace H n l) n) ≡ DISPLACED = ap status (L .own) ∙ displaced-status in
         let after : answer .after ≡ DISPLACED = A .after ∙ now in
-        stepped-good G a (P .reference .0) (P .reference .1) w A later (S .sound) L (displaced-agrees E m a w answer after k o)
+        stepped-good G a (P .reference .0) (P .reference .1) w A later (S .formed) L (displaced-agrees E m a w answer after k o)
         (λ h hlt. displace-step F lt (move .displaces e .1) (move .displaces e .0) hlt (outOf t h) (outOf (feed a w answer t) h) (redOf t h) (redOf (feed a w answer t) h)
         (record { out = λ j m. fed-quiet a w answer t (answer-counts A (P .reference .0)) later (λ z. omega (arith, z, after)) (inr (λ z. omega (arith, z, after))) five h j m })
         (record { red = λ m. fed-red a w answer t (answer-counts A (P .reference .0)) later five h m }))
@@ -178,7 +178,7 @@ module _ {B : ℕ → ℕ → ℕ} {l : List ℕ} {t : Tally} (G : Good B l t) (
         N .same-granted ∙ ap (λ (b : Bool). pick b (granted H (annulledRow H r)) []) (N′ .flag) ∙ ap (λ (v : List ℕ). pick (has grantedGiven r) v []) (N′ .granted) ∙ sym (E .same-granted) in
         let full : (h : ℕ) → h < H → grantedIn (entryAfter a w answer t) h ≡ getD r (hourAt H grantedPart h) 0 =
         λ h hlt. ap (λ (v : List ℕ). standing (t (answer .reference) .start) v h) same-granted ∙ agrees-granted E m (λ h hlt. F .profiles n lt .outside grantedPart h (lit< tt) hlt) h hlt in
-        stepped-good G a (P .reference .0) (P .reference .1) w A later (S .sound) L N
+        stepped-good G a (P .reference .0) (P .reference .1) w A later (S .formed) L N
         (λ h hlt. annul-step F lt (move .annuls-confirmed (at .0) (at .1)) (at .1) hlt (outOf t h) (outOf (feed a w answer t) h) (redOf t h) (redOf (feed a w answer t) h) (P .whole e)
         (λ most. record { out = λ j m. fed-annul-top a w answer t count later (reqtype r) (related r) h (getD r (hourAt H grantedPart h) 0) (E .same-type) (E .same-related) (full h hlt) before after (F .words n lt .type-least) most j m })
         (λ least j m. fed-annul-child a w answer t count later (reqtype r) (related r) h (getD r (hourAt H grantedPart h) 0) (E .same-type) (E .same-related) (full h hlt) before after least (move .annuls-confirmed (at .0) (at .1)) (F .relations n lt .up least .0) j m)
@@ -195,7 +195,7 @@ module _ {B : ℕ → ℕ → ℕ} {l : List ℕ} {t : Tally} (G : Good B l t) (
         let after : answer .after ≡ a .status = A .after ∙ now in
         let off = quiet-offs ne e in
         let u = other-unsettled a r o (P .may) in
-        stepped-good G a (P .reference .0) (P .reference .1) w A later (S .sound) L (status-agrees E m a w answer (a .status) after u (inl (λ z. omega (arith, z, k))) (inr o))
+        stepped-good G a (P .reference .0) (P .reference .1) w A later (S .formed) L (status-agrees E m a w answer (a .status) after u (inl (λ z. omega (arith, z, k))) (inr o))
         (λ h hlt. status-step F lt (off .0) hlt (outOf t h) (outOf (feed a w answer t) h) (redOf t h) (redOf (feed a w answer t) h) (a .status) (off .1)
         (record { out = λ j m. fed-quiet a w answer t (answer-counts A (P .reference .0)) later (λ z. off .1 .0 (sym after ∙ z)) (inl (λ z. off .0 .0 (sym (A .before) ∙ z))) five h j m })
         (record { red = λ m. fed-red a w answer t (answer-counts A (P .reference .0)) later five h m }))

@@ -1,11 +1,11 @@
 -- An accepted action leaves a sound ledger sound.
 use mathlib.Core.Path.{_≡_, refl, sym, ap, _∙_, subst}
-use mathlib.Core.Logic.{_⊎_, inl, inr}
+use mathlib.Core.Logic.{_≢_, _⊎_, inl, inr}
 use mathlib.Core.Bool.{Bool, true, false, _&&_, not}
 use mathlib.Core.List.{List}
-use Prim.Native.Nat.{ℕ, _+_, _-_, _≤_, _<_}
+use Prim.Native.Nat.{ℕ, suc, _+_, _-_, _≤_, _<_}
 use native.Mathlib.Omega.{arith}
-use borrow.Author.Tests.{eqb-true, leb-true, not-false}
+use borrow.Author.Tests.{eqb-true, ne-eqb, leb-true, not-false}
 use lib.Dec.{eqb, leb, lit<}
 use lib.ListN.{getD, length-set}
 use lib.Seq.{getD-set-same, getD-set-other}
@@ -23,7 +23,7 @@ use Rattle.rules.specs.Approve.{approveNumber, approveAfter}
 use Rattle.rules.specs.Reduce.{reduceNumber, reduceAfter}
 use Rattle.rules.specs.Lapse.{lapseNumber, lapseAfter}
 use Rattle.rules.specs.Clock.{clockNumber, clockAfter}
-use Rattle.rules.specs.Submit.{submitNumber}
+use Rattle.rules.specs.Submit.{submitNumber, submitAfter}
 use Rattle.rules.specs.Paths.{soundPostings}
 use Rattle.rules.specs.Post.{postNumber, posted}
 use Rattle.rules.specs.Act.{byKind, kindNumber, kindAfter, postingsAfter, commonNumber, overUse, useNumber, lastNumber, soundNumber, number, refused, accepted, step, soundBoth}
@@ -34,7 +34,7 @@ use Rattle.rules.proofs.Formed.{FormedHours, Formed, formed}
 use Rattle.rules.proofs.Passed.{gives-none, or-else-none, profile-length, SellerPassed, CustomerPassed, ApprovePassed, ReducePassed, LapsePassed, ClockPassed, submit-passed, seller-status-passed, customer-status-passed, approve-passed, reduce-passed, lapse-passed, clock-passed, post-passed}
 use Rattle.rules.proofs.Posts.{SoundPostings, postings-facts, facts-postings, posted-sound}
 use Rattle.rules.proofs.Submitted.{submit-next}
-use Rattle.rules.proofs.Bounded.{Bounded, carries-false}
+use Rattle.rules.proofs.Bounded.{AllBounded, carries-false}
 use Rattle.rules.proofs.Kept.{Same, Next, Shaped, relation-shaped, formed-by, head-kept, same-self, same-status, same-approved, same-offered, same-bidden, fitting-profile, fitting-force, fitting-granted, next-own, next-displace, next-annul, next-reduce, next-confirm, next-then-confirm, next-then-status}
 
 -- either of two ledgers
@@ -195,14 +195,10 @@ kind-next {l} F w a actor =
     (next-choice (eqb (a .kind) 6) _ _ (λ e. lapse-next F a (lapse-passed (hours l) l a e))
     (next-choice (eqb (a .kind) 7) _ _ (λ e. clock-next F a (clock-passed l a e)) (λ e. next-self F)))))))
 
--- ---- the last check: no available, displaced or reduced word over the bound
-module _ {l : List ℕ} (F : Formed l) (e : carriesOver (hours l) l ≡ false) where
-  -- in the span of a row
-  carried : (n : ℕ) → n < used l → Bounded (hours l) (row (hours l) l n)
-  carried = carries-false (hours l) l e
-
-  pub sound-of : SoundLedger l
-  sound-of = record {
+-- ---- a formed ledger is sound where no available, displaced or reduced word in a row's span is over the bound
+module _ {l : List ℕ} (F : Formed l) (b : AllBounded (hours l) l) where
+  pub bounded-sound : SoundLedger l
+  bounded-sound = record {
     head = F .head;
     words = F .words;
     profiles = λ n lt. record { most = λ p h plt hlt. most n lt p h plt hlt (lt-or-le p availablePart); outside = F .profiles n lt .outside };
@@ -218,7 +214,11 @@ module _ {l : List ℕ} (F : Formed l) (e : carriesOver (hours l) l ≡ false) w
           go : (h < start (row (hours l) l n)) ⊎ (start (row (hours l) l n) ≤ h) → (h < stop (row (hours l) l n)) ⊎ (stop (row (hours l) l n) ≤ h) → getD (row (hours l) l n) (hourAt (hours l) p h) 0 ≤ mostMegawatts
           go (inl x) y = omega (arith, F .profiles n lt .outside p h plt hlt (inl x))
           go (inr x) (inr y) = omega (arith, F .profiles n lt .outside p h plt hlt (inr y))
-          go (inr x) (inl y) = carried n lt .most p h u plt x y
+          go (inr x) (inl y) = b n lt .most p h u plt x y
+
+-- which the last check asks
+pub sound-of : {l : List ℕ} → Formed l → carriesOver (hours l) l ≡ false → SoundLedger l
+sound-of {l} F e = bounded-sound F (carries-false (hours l) l e)
 
 last-passed : (H : ℕ) (l : List ℕ) → lastNumber H l ≡ 0 → carriesOver H l ≡ false
 unfolding lastNumber
@@ -276,12 +276,26 @@ kind-passed a e =
     let t = not-false _ (k .0) in
     (leb-true _ _ (and-left _ _ t), leb-true _ _ (and-right (leb 1 (a .kind)) _ t))
 
+-- one kind after another: a kind that is not m is past it
+pub past : {m k : ℕ} → k ≢ m → m ≤ k → suc m ≤ k
+past ne le = omega (arith, ne)
+
 -- the number of an action, by its kind
 pub number-of : (H : ℕ) (l w : List ℕ) (a : Action) {k : ℕ} → a .kind ≡ k → kindNumber H l w a ≡ byKind k (submitNumber H l w a) (sellerNumber H l w a) (customerNumber H l w a) (approveNumber H l a) (reduceNumber H l w a) (lapseNumber H l a) (clockNumber l a) (postNumber H l w a)
 unfolding kindNumber
 number-of H l w a q = ap (λ (k : ℕ). byKind k (submitNumber H l w a) (sellerNumber H l w a) (customerNumber H l w a) (approveNumber H l a) (reduceNumber H l w a) (lapseNumber H l a) (clockNumber l a) (postNumber H l w a)) q
 
--- postings stay sound
+-- and what it leaves
+pub after-of : (H : ℕ) (l w : List ℕ) (a : Action) {k : ℕ} → a .kind ≡ k → kindAfter H l w a ≡ byKind k (submitAfter H l w a) (sellerAfter H l w a) (customerAfter H l w a) (approveAfter H l a) (reduceAfter H l w a) (lapseAfter H l a) (clockAfter l a) l
+unfolding kindAfter
+after-of H l w a q = ap (λ (k : ℕ). byKind k (submitAfter H l w a) (sellerAfter H l w a) (customerAfter H l w a) (approveAfter H l a) (reduceAfter H l w a) (lapseAfter H l a) (clockAfter l a) l) q
+
+-- only a posting alters the postings
+pub postings-stay : (H : ℕ) (ps w : List ℕ) (a : Action) → a .kind ≢ 8 → postingsAfter H ps w a ≡ ps
+unfolding postingsAfter
+postings-stay H ps w a n8 = ap (λ (b : Bool). pick b (posted H ps w a) ps) (ne-eqb (a .kind) 8 n8)
+
+-- and leaves them sound
 pub postings-kept : (l ps w : List ℕ) (a : Action) → kindNumber (hours l) l w a ≡ 0 → SoundPostings (hours l) ps → SoundPostings (hours l) (postingsAfter (hours l) ps w a)
 unfolding postingsAfter
 postings-kept l ps w a e S = go (eqb (a .kind) 8) refl
@@ -307,7 +321,7 @@ both-kept l ps w a s e =
     (facts-postings (hours l) _ (postings-kept l ps w a (number-passed l ps w a e .kind) (postings-facts (hours l) ps (f .1)))))
 
 -- a refused action leaves the ledger and the postings as they were
-step-true : (l ps w : List ℕ) (a : Action) → soundBoth l ps ≡ true → soundBoth (step true l ps w a .ledger) (step true l ps w a .postings) ≡ true
+pub step-true : (l ps w : List ℕ) (a : Action) → soundBoth l ps ≡ true → soundBoth (step true l ps w a .ledger) (step true l ps w a .postings) ≡ true
 unfolding step accepted refused
 step-true l ps w a s = go (eqb (number true l ps w a) 0) refl
   where

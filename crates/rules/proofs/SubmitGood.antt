@@ -20,7 +20,7 @@ use Rattle.rules.specs.Tally.{Entry, Tally, opened, counts, feed}
 use Rattle.rules.specs.declared.Action.{Action}
 use Rattle.rules.specs.declared.Answer.{Answer}
 use Rattle.rules.proofs.Rows.{row-length}
-use Rattle.rules.proofs.SoundFacts.{SoundLedger, sized}
+use Rattle.rules.proofs.SoundFacts.{sized}
 use Rattle.rules.proofs.Formed.{Formed, formed}
 use Rattle.rules.proofs.View.{view, viewOf, outOf, redOf}
 use Rattle.rules.proofs.Effects.{Opens}
@@ -30,7 +30,7 @@ use Rattle.rules.proofs.Begins.{NewRelation, submit-step}
 use Rattle.rules.proofs.TallyLaws.{opened-own, opened-other, opened-out, opened-red}
 use Rattle.rules.proofs.Entries.{new-agrees}
 use Rattle.rules.proofs.Good.{Agrees, Ordered, GoodAt, Good}
-use Rattle.rules.proofs.Keeping.{stepped, ordered}
+use Rattle.rules.proofs.Keeping.{stepped, ordered, columns-sound}
 use Rattle.rules.proofs.Answers.{AnswerOf, answer-counts}
 
 -- what the relations of a new row are
@@ -42,7 +42,7 @@ new-relation {H} {l} {w} {a} P = record {
   others = λ least ne. P .derived least .others ne;
 }
 
-module _ {B : ℕ → ℕ → ℕ} {l : List ℕ} {t : Tally} (G : Good B l t) (w : List ℕ) (a : Action) (P : SubmitPassed (hours l) l w a) (S : SoundLedger (submitAfter (hours l) l w a))
+module _ {B : ℕ → ℕ → ℕ} {l : List ℕ} {t : Tally} (G : Good B l t) (w : List ℕ) (a : Action) (P : SubmitPassed (hours l) l w a) (S : Formed (submitAfter (hours l) l w a))
     {answer : Answer} (A : AnswerOf answer (used l + 1) 0 (status (row (hours l) (submitAfter (hours l) l w a) (used l)))) (k : a .kind ≡ 1) where
   abbrev H : ℕ
   H = hours l
@@ -106,7 +106,7 @@ module _ {B : ℕ → ℕ → ℕ} {l : List ℕ} {t : Tally} (G : Good B l t) (
 
   submit-kept : Good B l′ fed
   submit-kept = record {
-    sound = S;
+    sound = columns-sound fed S (subst (λ (J : ℕ). (h : ℕ) → h < J → Ordered (B h) (viewOf J h l′ fed)) (sym (O .head 1 (lit< tt) (λ e. omega (arith, e)))) column);
     good = subst (λ (J : ℕ). GoodAt B J l′ fed) (sym (O .head 1 (lit< tt) (λ e. omega (arith, e)))) (record {
       entries = λ n lt. entry n (omega (arith, more));
       others = λ q z. ap (λ (e : Entry). e .reqtype) (other q (λ e. apart q e z)) ∙ G .good .others q (⊎-elim (λ u. inl u) (λ u. inr (omega (arith, u, more))) z);
@@ -118,6 +118,6 @@ module _ {B : ℕ → ℕ → ℕ} {l : List ℕ} {t : Tally} (G : Good B l t) (
       apart q e (inl u) = omega (arith, e, u)
       apart q e (inr u) = omega (arith, e, u, more)
 
-pub submit-good : {B : ℕ → ℕ → ℕ} {l : List ℕ} {t : Tally} → Good B l t → (w : List ℕ) (a : Action) → SubmitPassed (hours l) l w a → SoundLedger (submitAfter (hours l) l w a)
+pub submit-good : {B : ℕ → ℕ → ℕ} {l : List ℕ} {t : Tally} → Good B l t → (w : List ℕ) (a : Action) → SubmitPassed (hours l) l w a → Formed (submitAfter (hours l) l w a)
     → {answer : Answer} → AnswerOf answer (used l + 1) 0 (status (row (hours l) (submitAfter (hours l) l w a) (used l))) → a .kind ≡ 1 → Good B (submitAfter (hours l) l w a) (feed a w answer t)
 submit-good G w a P S A k = submit-kept G w a P S A k

@@ -22,6 +22,7 @@ use Rattle.rules.specs.Checks.{named, namedRow}
 use Rattle.rules.specs.Act.{subject, statusBefore, usesPath, overUse}
 use Rattle.rules.specs.declared.Action.{Action}
 use Rattle.rules.proofs.SoundFacts.{SoundLedger}
+use Rattle.rules.proofs.Formed.{Formed}
 use Rattle.rules.proofs.Passed.{or-none, and-none}
 use Rattle.rules.proofs.Types.{derived-type}
 use Rattle.rules.proofs.View.{view}
@@ -46,10 +47,10 @@ pub within-posting : (H : ℕ) (l ps : List ℕ) (x h : ℕ) → overPosted H l 
 unfolding overPosted
 within-posting H l ps x h e lt = leb-true _ _ (all-at (λ h. leb (useOf H l x h) (postedIn H ps x h)) H h (not-false _ e) lt)
 
--- ---- what an action leaves, as its row n goes from the status old to new: a sound ledger, with the paths tested where
--- it confirms the row, or annuls it from 13
+-- ---- what an action leaves, as its row n goes from the status old to new: a formed ledger, with the paths tested
+-- where it confirms the row, or annuls it from 13
 pub record Left (B : ℕ → ℕ → ℕ) (l l′ : List ℕ) (n old new : ℕ) : Type 0 where
-  pub sound : SoundLedger l′
+  pub formed : Formed l′
   pub tested : confirmedOrAnnulled old new ≡ true → (h : ℕ) → h < hours l → (out out′ : ℕ → ℕ → ℤ) (red red′ : ℕ → ℤ) → Tested (B h) (view (hours l) h l out red) (view (hours l) h l′ out′ red′) n
 
 pub takes-confirmed : (old new : ℕ) → old ≢ CONFIRMED → new ≡ CONFIRMED → confirmedOrAnnulled old new ≡ true

@@ -26,4 +26,5 @@ pub mod Limits
 pub mod Open
 pub mod ReadOut
 pub mod Day
+pub mod Parallel
 pub mod Rules
