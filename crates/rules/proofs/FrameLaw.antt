@@ -17,9 +17,10 @@ use Rattle.rules.specs.Parallel.{Plain}
 use Rattle.rules.specs.declared.Action.{Action}
 use Rattle.rules.proofs.Picks.{or-first, or-second, and-all}
 use Rattle.rules.proofs.Types.{derived-type, derived-least}
-use Rattle.rules.proofs.SoundFacts.{SoundLedger, range, sized}
+use Rattle.rules.proofs.SoundFacts.{SoundLedger, sized}
 use Rattle.rules.proofs.Formed.{formed}
 use Rattle.rules.proofs.Effects.{above-before}
+use Rattle.rules.proofs.Passed.{issued-range}
 use Rattle.rules.proofs.Kept.{same-self}
 use Rattle.rules.proofs.Soundness.{kind-passed, number-passed}
 use Rattle.rules.proofs.Wrote.{Frame, frame, frame-self, agree-self}
@@ -28,8 +29,7 @@ use Rattle.rules.proofs.Local.{kind-wrote}
 
 -- the row of an issued reference is in use
 pub issued-used : (l : List ℕ) (r : ℕ) → issued l r ≡ true → rowOf r < used l
-unfolding issued
-issued-used l r e = let i = range 1 r (used l) e in omega (arith, i .0, i .1)
+issued-used l r e = let i = issued-range l r e in omega (arith, i .0, i .1)
 
 -- an action that passes the checks of its kind names a row
 module _ (a : Action) (plain : Plain a) (c : commonNumber true a ≡ 0) (H : ℕ) (l w : List ℕ) where

@@ -14,20 +14,15 @@ use Rattle.rules.specs.Checks.{named}
 use Rattle.rules.specs.Tally.{Tally}
 use Rattle.rules.specs.Limits.{NeverOver}
 use Rattle.rules.specs.declared.Action.{Action}
-use Rattle.rules.proofs.SoundFacts.{SoundLedger}
 use Rattle.rules.proofs.Formed.{formed}
 use Rattle.rules.proofs.View.{outOf, redOf}
-use Rattle.rules.proofs.Bounded.{not-carries}
-use Rattle.rules.proofs.Over.{carried}
+use Rattle.rules.proofs.Over.{sound-carries}
 use Rattle.rules.proofs.Soundness.{kind-next, common-passed, after-of}
 use Rattle.rules.proofs.Good.{Good}
 use Rattle.rules.proofs.Tests.{use-column}
 use Rattle.rules.proofs.Keeping.{good-within}
 use Rattle.rules.proofs.KindGood.{Tests, kind-good}
 use Rattle.rules.proofs.Demand.{calls-good}
-
-sound-last : {l : List ℕ} → SoundLedger l → carriesOver (hours l) l ≡ false
-sound-last {l} s = not-carries (hours l) l (carried s .bounded)
 
 module _ {B : ℕ → ℕ → ℕ} {l : List ℕ} {t : Tally} (G : Good B l t) (w : List ℕ) (a : Action) (c : commonNumber true a ≡ 0) (e : kindNumber (hours l) l w a ≡ 0) where
   abbrev next : List ℕ
@@ -52,10 +47,10 @@ module _ {B : ℕ → ℕ → ℕ} {l : List ℕ} {t : Tally} (G : Good B l t) (
   carries-none = go (ℕ-discrete (a .kind) 8)
     where
       go : Dec (a .kind ≡ 8) → carriesOver (hours l) next ≡ false
-      go (yes q) = subst (λ (x : List ℕ). carriesOver (hours l) x ≡ false) (sym (after-of (hours l) l w a q)) (sound-last (G .sound))
+      go (yes q) = subst (λ (x : List ℕ). carriesOver (hours l) x ≡ false) (sym (after-of (hours l) l w a q)) (sound-carries (G .sound))
       go (no n8) =
           subst (λ (h : ℕ). carriesOver h next ≡ false) (kind-next (formed (G .sound)) w a (common-passed a c) e .hours)
-          (sound-last (kind-good widened w a c e tested n8 .sound))
+          (sound-carries (kind-good widened w a c e tested n8 .sound))
 
 pub never-over : NeverOver
 unfolding lastNumber

@@ -82,6 +82,10 @@ carried {l} s = record {
   bounded = λ m lt. record { most = λ p h low high least below. s .profiles m lt .most p h high (omega (arith, below, s .words m lt .stops)) };
 }
 
+-- and carries nothing over
+pub sound-carries : {l : List ℕ} → SoundLedger l → carriesOver (hours l) l ≡ false
+sound-carries {l} s = not-carries (hours l) l (carried s .bounded)
+
 ranged : {R H : ℕ} {l : List ℕ} → Carried R H l → {m : ℕ} → m < used l → Ranged H (row H l m)
 ranged c {m} lt = record { long = row-length (c .sized) (omega (arith, lt, c .most-used)); starts = c .starts m lt; stops = c .stops m lt }
 

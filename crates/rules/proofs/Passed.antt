@@ -191,7 +191,7 @@ relates-others t u e ne =
     let g = or-none _ _ (f .1) in
     (eqb-false _ _ (f .0), eqb-false _ _ (g .0))
 
-issued-range : (l : List ℕ) (r : ℕ) → issued l r ≡ true → (1 ≤ r) × (r ≤ used l)
+pub issued-range : (l : List ℕ) (r : ℕ) → issued l r ≡ true → (1 ≤ r) × (r ≤ used l)
 unfolding issued
 issued-range l r e = let f = and-both _ _ e in (leb-true _ _ (f .0), leb-true _ _ (f .1))
 

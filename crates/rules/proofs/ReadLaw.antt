@@ -18,7 +18,7 @@ use Rattle.rules.specs.Moves.{confirmedOrAnnulled}
 use Rattle.rules.specs.Megawatts.{megawattsWithin, carriesOver}
 use Rattle.rules.specs.Checks.{named, namedRow}
 use Rattle.rules.specs.Paths.{postedIn, useOf, overPosted, overAt}
-use Rattle.rules.specs.Act.{kindNumber, kindAfter, postingsAfter, commonNumber, subject, statusBefore, usesPath, overUse, useNumber, lastNumber, soundNumber, number, refusal, movedBy, megawattHours, acceptance, answered, refused, accepted, step}
+use Rattle.rules.specs.Act.{kindNumber, kindAfter, postingsAfter, commonNumber, subject, statusBefore, overUse, useNumber, lastNumber, soundNumber, number, refusal, movedBy, megawattHours, acceptance, answered, refused, accepted, step}
 use Rattle.rules.specs.Parallel.{Plain}
 use Rattle.rules.specs.declared.Action.{Action}
 use Rattle.rules.specs.declared.Answer.{Answer}
@@ -26,15 +26,15 @@ use Rattle.rules.proofs.Picks.{and-cong}
 use Rattle.rules.proofs.SoundFacts.{SoundLedger}
 use Rattle.rules.proofs.Formed.{formed}
 use Rattle.rules.proofs.Kept.{same-self}
-use Rattle.rules.proofs.Bounded.{not-carries}
-use Rattle.rules.proofs.Over.{carried}
+use Rattle.rules.proofs.Over.{sound-carries}
 use Rattle.rules.proofs.Soundness.{number-passed}
+use Rattle.rules.proofs.Tests.{use-named}
 use Rattle.rules.proofs.Wrote.{Agree, Frame, Wrote, frame, agree, turn}
 use Rattle.rules.proofs.Reach.{Reach, same-row, same-above, same-kind}
 use Rattle.rules.proofs.Local.{kind-wrote}
 use Rattle.rules.proofs.FrameLaw.{issued-used, unnamed-is-4, passed-is-named}
 
--- ---- of an action that is no submission and no posting: its answer, of the row before and after
+-- ---- the answer of an action that names its row, of that row before and after
 unfoldable saysOf : ℕ → List ℕ → Action → List ℕ → List ℕ → Answer
 saysOf H w a r q =
     pick (eqb (a .kind) 7 || eqb (a .kind) 8) (refusal 0)
@@ -43,12 +43,6 @@ saysOf H w a r q =
 says-of : (H : ℕ) (l w : List ℕ) (a : Action) (next : List ℕ) → a .kind ≢ 1 → answered H l w a next ≡ saysOf H w a (namedRow H l a) (row H next (named a))
 unfolding answered acceptance megawattHours subject statusBefore saysOf
 says-of H l w a next n1 = simp (ne-eqb (a .kind) 1 n1)
-
--- and where 22 is judged
-uses-of : (H : ℕ) (l : List ℕ) (a : Action) (next ps : List ℕ) → a .kind ≢ 1 → a .kind ≢ 8
-    → overUse H l a next ps ≡ (confirmedOrAnnulled (status (namedRow H l a)) (status (row H next (named a))) && overAt H l (named a) next ps)
-unfolding overUse usesPath subject statusBefore
-uses-of H l a next ps n1 n8 = simp (ne-eqb (a .kind) 1 n1, ne-eqb (a .kind) 8 n8)
 
 -- a group of checks, and another where it gives 0
 or-else-cong : {i i′ j j′ : ℕ} → i ≡ i′ → (i ≡ 0 → j ≡ j′) → pick (eqb i 0) j i ≡ pick (eqb i′ 0) j′ i′
@@ -63,9 +57,9 @@ unfolding issued
 same-issued l m r u e = ap (λ (x : ℕ). r isFrom 1 to x) (sym u) ∙ e
 
 -- a row of a sound ledger carries nothing over
-sound-bears : {l : List ℕ} → SoundLedger l → (k : ℕ) → k < used l → megawattsWithin (hours l) (row (hours l) l k) ≡ true
+row-within : {l : List ℕ} → SoundLedger l → (k : ℕ) → k < used l → megawattsWithin (hours l) (row (hours l) l k) ≡ true
 unfolding carriesOver
-sound-bears {l} s k lt = all-at (λ n. megawattsWithin (hours l) (row (hours l) l n)) (used l) k (not-false _ (not-carries (hours l) l (carried s .bounded))) lt
+row-within {l} s k lt = all-at (λ n. megawattsWithin (hours l) (row (hours l) l n)) (used l) k (not-false _ (sound-carries s)) lt
 
 -- the use of path x is the same in every hour; so it is over the posting alike
 abbrev pub SameUse : ℕ → List ℕ → List ℕ → ℕ → Type 0
@@ -132,10 +126,10 @@ module _ {K : ℕ → Bool} {R : ℕ} {l m : List ℕ} (s : SoundLedger l) (t : 
         go k lt true q = ap (megawattsWithin H) (N .rows k q)
         go k lt false q =
             ap (megawattsWithin H) (first-frame .other k q)
-            ∙ sound-bears s k (omega (arith, lt, first-frame .head 6 (lit< tt)))
+            ∙ row-within s k (omega (arith, lt, first-frame .head 6 (lit< tt)))
             ∙ sym (ap (megawattsWithin H) (second-frame .other k q)
             ∙ ap (λ (h : ℕ). megawattsWithin h (row h m k)) (sym same-hours)
-            ∙ sound-bears t k (omega (arith, lt, first-frame .head 6 (lit< tt), G .head 6 (lit< tt))))
+            ∙ row-within t k (omega (arith, lt, first-frame .head 6 (lit< tt), G .head 6 (lit< tt))))
 
     pub same-answer : answered H l w a next ≡ answered H m w a next′
     same-answer =
@@ -158,11 +152,11 @@ module _ {K : ℕ → Bool} {R : ℕ} {l m : List ℕ} (s : SoundLedger l) (t : 
 
     same-uses : SameUses H l n next next′ → (ps : List ℕ) → overUse H l a next ps ≡ overUse H m a next′ ps
     same-uses U ps =
-        uses-of H l a next ps (plain .submission) (plain .posting)
+        use-named H l a next ps (plain .submission) (plain .posting)
         ∙ ap (λ (r : List ℕ). confirmedOrAnnulled (status r) (status (row H next n)) && overAt H l n next ps) (same-row G (reach i))
         ∙ ap (λ (r : List ℕ). confirmedOrAnnulled (status (row H m n)) (status r) && overAt H l n next ps) (N .rows n (reach i .own))
         ∙ ap (λ (b : Bool). confirmedOrAnnulled (status (row H m n)) (status (row H next′ n)) && b) (same-at U ps)
-        ∙ sym (uses-of H m a next′ ps (plain .submission) (plain .posting))
+        ∙ sym (use-named H m a next′ ps (plain .submission) (plain .posting))
 
   -- ---- the law, of the number and of the answer
   module _ (U : issued l (a .reference) ≡ true → kindNumber H l w a ≡ 0 → SameUses H l n next next′) (ps : List ℕ) where

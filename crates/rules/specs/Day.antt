@@ -20,10 +20,10 @@ abbrev pub names : ℕ → ℕ → ℕ → ℕ → ℕ → Action
 names kind actor reference status price =
     record { kind = kind; actor = actor; reference = reference; reqtype = 0; status = status; seller = 0; related = 0; start = 0; stop = 0; flags = 0; price = price; time = 0; offset = 0; length = 0; path = 0 }
 
--- the provider posts the path's hours 0 to 4
-abbrev pub posts : ℕ → Action
-posts path =
-    record { kind = 8; actor = 1; reference = 0; reqtype = 0; status = 0; seller = 0; related = 0; start = 0; stop = 4; flags = 0; price = 0; time = 0; offset = 0; length = 4; path = path }
+-- the provider posts the path's first hours, so many
+abbrev pub posts : ℕ → ℕ → Action
+posts hours path =
+    record { kind = 8; actor = 1; reference = 0; reqtype = 0; status = 0; seller = 0; related = 0; start = 0; stop = hours; flags = 0; price = 0; time = 0; offset = 0; length = hours; path = path }
 
 abbrev pub line : ℕ → ℕ → ℕ → ℕ → ℕ → Answer
 line n r s t m = record { number = n; reference = r; before = s; after = t; moved = m }
@@ -72,7 +72,7 @@ dayAnswers =
 
 -- paths 1 and 2 are posted at 100 beforehand
 unfoldable pub dayPosted : Run
-dayPosted = runActions dayLedger (unposted 4) dayWords (posts 1 ∷ posts 2 ∷ [])
+dayPosted = runActions dayLedger (unposted 4) dayWords (posts 4 1 ∷ posts 4 2 ∷ [])
 
 unfoldable pub dayRun : Run
 dayRun = runActions (dayPosted .ledger) (dayPosted .postings) dayWords dayActions

@@ -30,4 +30,5 @@ NeverOver =
     (R H provider window base : ℕ) → goodNumbers R H provider window base ≡ true →
     (ps : List ℕ) (calls : List Call) (w : List ℕ) (a : Action) →
     let l = runCalls (fresh R H provider window base) ps calls .ledger in
-    commonNumber true a ≡ 0 → kindNumber (hours l) l w a ≡ 0 → lastNumber (hours l) (kindAfter (hours l) l w a) ≡ 0
+    commonNumber true a ≡ 0 → kindNumber (hours l) l w a ≡ 0 →
+    lastNumber (hours l) (kindAfter (hours l) l w a) ≡ 0

@@ -12,7 +12,7 @@ use Rattle.rules.specs.Checks.{named}
 use Rattle.rules.specs.Act.{Outcome, outcome}
 use Rattle.rules.specs.Calls.{Run, Call, runActions, runCalls, answers}
 use Rattle.rules.specs.Open.{inTree}
-use Rattle.rules.specs.Day.{submits, names, line}
+use Rattle.rules.specs.Day.{submits, names, posts, line}
 use Rattle.rules.specs.declared.Action.{Action}
 use Rattle.rules.specs.declared.Answer.{Answer}
 
@@ -33,7 +33,8 @@ pub record Unrelated (H : ℕ) (l : List ℕ) (n m : ℕ) : Type 0 where
   pub of-first : OfOriginal H l first n
   pub of-second : OfOriginal H l second m
   pub originals : first ≢ second
-  pub paths : (i j : ℕ) → i < used l → j < used l → inTree H l first i ≡ true → inTree H l second j ≡ true → path (row H l i) ≢ path (row H l j)
+  pub paths : (i j : ℕ) → i < used l → j < used l → inTree H l first i ≡ true → inTree H l second j ≡ true
+      → path (row H l i) ≢ path (row H l j)
 
 -- of the rows that two actions name. An action that names no row is refused wherever it stands: nothing is asked then
 abbrev pub Apart : List ℕ → Action → Action → Type 0
@@ -63,14 +64,10 @@ InParallel =
 
 -- ---- With a common path this does not hold. 100 is posted on paths 1 and 2, for one hour; two preconfirmed originals,
 -- on path 1 and on path x, ask for 100 each
-abbrev pub postsHour : ℕ → Action
-postsHour x =
-    record { kind = 8; actor = 1; reference = 0; reqtype = 0; status = 0; seller = 0; related = 0; start = 0; stop = 1; flags = 0; price = 0; time = 0; offset = 0; length = 1; path = x }
-
 unfoldable pub twoAsk : ℕ → Run
 twoAsk x =
     runActions (fresh 2 1 1 3600 0) (unposted 1) (100 ∷ [])
-    (postsHour 1 ∷ postsHour 2 ∷ submits 10 1 1 0 0 1 1 0 0 1 1 ∷ submits 20 1 1 0 0 1 1 0 0 1 x ∷ [])
+    (posts 1 1 ∷ posts 1 2 ∷ submits 10 1 1 0 0 1 1 0 0 1 1 ∷ submits 20 1 1 0 0 1 1 0 0 1 x ∷ [])
 
 -- the seller accepts the request of this reference
 abbrev pub sellerAccepts : ℕ → Action
