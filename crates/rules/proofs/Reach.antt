@@ -2,20 +2,17 @@
 -- related to. So its checks give the same number on ledgers that agree there.
 use mathlib.Core.Path.{_≡_, refl, sym, ap, subst, _∙_}
 use mathlib.Core.Logic.{_≢_}
-use mathlib.Core.Bool.{Bool, true, false, _&&_, not}
+use mathlib.Core.Bool.{Bool, true, false, not}
 use mathlib.Core.List.{List}
 use Prim.Native.Nat.{ℕ, _≤_, _<_}
 use native.Mathlib.Omega.{arith}
 use borrow.Author.Tests.{eqb-true, eqb-false, ne-eqb}
 use lib.Dec.{eqb, lit<}
-use lib.ListN.{length}
-use Rattle.words.specs.Lists.{covered, equal}
-use Rattle.rules.specs.Pick.{pick, _gives_else_}
-use Rattle.rules.specs.Numbers.{availablePart, FULL-TRANSFER, RELINQUISH}
-use Rattle.rules.specs.Layout.{provider, clock, used, issued, rowOf, row, reqtype, related, start, relatedRow, hoursOf}
-use Rattle.rules.specs.Sound.{original, transfer}
-use Rattle.rules.specs.Moves.{isConfirmed}
-use Rattle.rules.specs.Confirming.{unapproved, unconfirmed, drawnFrom, short, sameSpan, partial, confirmNumber}
+use Rattle.rules.specs.Pick.{pick}
+use Rattle.rules.specs.Numbers.{FULL-TRANSFER, RELINQUISH}
+use Rattle.rules.specs.Layout.{provider, clock, used, issued, rowOf, row, reqtype, related, relatedRow}
+use Rattle.rules.specs.Sound.{original}
+use Rattle.rules.specs.Confirming.{unapproved, unconfirmed, drawnFrom, short, partial, confirmNumber}
 use Rattle.rules.specs.Checks.{named, namedRow, noReference, notProvider, waitingNumber}
 use Rattle.rules.specs.SellerStatus.{notSeller, fitNumber, offerNumber, sellerNumber}
 use Rattle.rules.specs.CustomerStatus.{bidConfirmNumber, bidNumber, customerNumber}
@@ -62,28 +59,6 @@ module _ {K : ℕ → Bool} {R H : ℕ} {l l′ : List ℕ} (F : Frame K R H l l
     grand-row = λ t. subst (λ (k : ℕ). k < R) (sym (grand-last n)) (X .grand-row (ap (λ (k : ℕ). eqb k RELINQUISH) (sym (types-last n)) ∙ t));
   }
 
--- ---- confirming, of the row r and its related row q
-unfoldable confirmBy : ℕ → List ℕ → List ℕ → List ℕ → Bool → ℕ
-confirmBy H r q mw isApproved =
-    (transfer (reqtype r) && not isApproved) gives 13 else
-    (not (original (reqtype r)) && not (isConfirmed q)) gives 9 else
-    (not (original (reqtype r)) && not (covered mw (hoursOf H availablePart (start r) (length mw) q))) gives 14 else
-    (eqb (reqtype r) FULL-TRANSFER && not (sameSpan r q && equal mw (hoursOf H availablePart (start r) (length mw) q))) gives 14 else
-    0
-
-confirm-by : (H : ℕ) (l : List ℕ) (n : ℕ) (mw : List ℕ) (b : Bool) → confirmNumber H l n mw b ≡ confirmBy H (row H l n) (row H l (relatedRow H l n)) mw b
-unfolding confirmNumber confirmBy unapproved unconfirmed short partial drawnFrom
-confirm-by H l n mw b = refl
-
--- the related row of an original is not looked at
-confirm-above : (H : ℕ) (r q p : List ℕ) (mw : List ℕ) (b : Bool) → (original (reqtype r) ≡ false → q ≡ p) → confirmBy H r q mw b ≡ confirmBy H r p mw b
-unfolding confirmBy
-confirm-above H r q p mw b f = go (original (reqtype r)) refl
-  where
-    go : (o : Bool) → original (reqtype r) ≡ o → confirmBy H r q mw b ≡ confirmBy H r p mw b
-    go false e = ap (λ (x : List ℕ). confirmBy H r x mw b) (f e)
-    go true e = simp (e, ne-eqb (reqtype r) FULL-TRANSFER (λ z. omega (arith, z, original-range (reqtype r) e)))
-
 pub agree-related : {K : ℕ → Bool} {R H : ℕ} {l m : List ℕ} → Agree K R H l m → {k : ℕ} → K k ≡ true → relatedRow H l k ≡ relatedRow H m k
 unfolding relatedRow
 agree-related G {k} t = ap (λ (r : List ℕ). rowOf (related r)) (G .rows k t)
@@ -98,12 +73,17 @@ module _ {K : ℕ → Bool} {R H : ℕ} {l m : List ℕ} {n : ℕ} (G : Agree K 
   pub same-above : original (reqtype (row H l n)) ≡ false → row H l (relatedRow H l n) ≡ row H m (relatedRow H m n)
   same-above t = G .rows (relatedRow H l n) (X .above t) ∙ ap (row H m) same-related
 
+  -- confirming; the related row of an original is not looked at
   pub same-confirm : (mw : List ℕ) (b : Bool) → confirmNumber H l n mw b ≡ confirmNumber H m n mw b
-  same-confirm mw b =
-      confirm-by H l n mw b
-      ∙ confirm-above H (row H l n) _ _ mw b same-above
-      ∙ ap (λ (r : List ℕ). confirmBy H r (row H m (relatedRow H m n)) mw b) same-row
-      ∙ sym (confirm-by H m n mw b)
+  unfolding confirmNumber unapproved unconfirmed short partial drawnFrom
+  same-confirm mw b = go (original (reqtype (row H m n))) refl
+    where
+      type-n : reqtype (row H l n) ≡ reqtype (row H m n)
+      type-n = ap reqtype same-row
+
+      go : (o : Bool) → original (reqtype (row H m n)) ≡ o → confirmNumber H l n mw b ≡ confirmNumber H m n mw b
+      go true e = simp (same-row, e, ne-eqb (reqtype (row H m n)) FULL-TRANSFER (λ z. omega (arith, z, original-range (reqtype (row H m n)) e)))
+      go false e = simp (same-row, same-above (ap original type-n ∙ e))
 
 -- ---- the checks of each kind
 module _ {K : ℕ → Bool} {R H : ℕ} {l m : List ℕ} (w : List ℕ) (a : Action) (G : Agree K R H l m) (X : Reach K R H l (named a)) where

@@ -28,6 +28,7 @@ OfOriginal H l o n = (original (reqtype (row H l o)) ≡ true) × (inTree H l o 
 
 -- rows n and m are or descend from different originals, and no path stands in rows of both trees
 pub record Unrelated (H : ℕ) (l : List ℕ) (n m : ℕ) : Type 0 where
+  -- the original of n, and that of m
   pub first : ℕ
   pub second : ℕ
   pub of-first : OfOriginal H l first n
