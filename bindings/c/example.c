@@ -1,8 +1,8 @@
 /*
  * Document 01's day at the desk on two posted paths, through the library: prints
  * its 14 lines, and exits with status 1 where a line or a word left behind differs,
- * or the ledger left behind does not open. Then its resale is contested, on another
- * ledger and without a line.
+ * or the ledger left behind does not open. Then its resale is contested and its chain
+ * unwound, each on another ledger and without a line.
  *
  *   cc -std=c11 -o example example.c -L<archive> -lluddrisa
  */
@@ -123,6 +123,29 @@ static int contests(void)
     return differences;
 }
 
+/* The day up to its tenth action: rows 2 and 3 came from row 1, and row 4 is open and
+ * preconfirmed. How many answers about unwinding them are not what they should be. */
+static int unwinds(void)
+{
+    static const uint32_t from_the_ends[] = {3, 4, 2, 1};
+    static const uint32_t too_early[] = {3, 4, 1, 2};
+    uint32_t ledger[LEDGER_WORDS];
+    uint32_t postings[POSTING_WORDS] = {0};
+    struct luddrisa_answer answers[ACTIONS];
+    int differences = 0;
+
+    if (luddrisa_create(ledger, LEDGER_WORDS, ROWS, HOURS, 1, 3600, 0) != 0 ||
+        batch(ledger, postings, posts, POSTS, answers) != 0 ||
+        batch(ledger, postings, list, 9, answers) != 0) {
+        return 1;
+    }
+    differences += luddrisa_annuls_in_order(ledger, LEDGER_WORDS, postings, POSTING_WORDS,
+                                            from_the_ends, 4) != 1;
+    differences += luddrisa_annuls_in_order(ledger, LEDGER_WORDS, postings, POSTING_WORDS,
+                                            too_early, 4) != 0;
+    return differences;
+}
+
 int main(void)
 {
     static const uint32_t displaced[HOURS] = {100, 100, 60, 70};
@@ -170,5 +193,6 @@ int main(void)
         return 1;
     }
     differences += contests();
+    differences += unwinds();
     return differences != 0;
 }

@@ -216,6 +216,25 @@ struct luddrisa_answer luddrisa_contest(uint32_t *ledger, size_t ledger_len,
                                         const uint32_t *replies, size_t replies_len);
 
 /*
+ * Tells whether a deal chain can be unwound so: 1 where annulling the references in
+ * that order, each by its row's seller (action 2, status 16) and each on what the
+ * one before left, is accepted at every step, otherwise 0. Only reads: nothing is
+ * annulled, and the answer holds as long as no other call writes.
+ *
+ * 1 for the empty list, whatever the words are. 0 for any other where the ledger is
+ * unsound or the postings do not fit it; where a reference is named twice or is not
+ * there, and so for every list of more references than rows are used; and where a
+ * step is refused with 11, 15, 22 or, for a displaced word, 1: a relinquish record
+ * at 13, a row from which something taken has not come back, a firm redirect while
+ * there is no room on the path it left. What is annulled earlier in the list comes
+ * back and makes room. An open preconfirmed row may be named anywhere, for it moves
+ * nothing.
+ */
+uint32_t luddrisa_annuls_in_order(const uint32_t *ledger, size_t ledger_len,
+                                  const uint32_t *postings, size_t postings_len,
+                                  const uint32_t *references, size_t references_len);
+
+/*
  * The charge of a CONFIRMED row: MW-hours granted * bid / 24, to the cent, a
  * half up. Gives 0 and the cents, or 1, 4 or 11 and 0 cents.
  */

@@ -5,6 +5,7 @@
 //! of the rounds' own ratios, so that a slow spell strikes both sides alike.
 //! Prints Markdown tables.
 
+mod annulments;
 mod mixed;
 mod opening;
 
@@ -199,6 +200,27 @@ fn line(name: &str, rounds: &Rounds, per: f64, against: &str, goal: f64) {
         time(rounds.library() / per),
         time(rounds.other())
     );
+}
+
+/// Lines of a table of growth: what each is about, both sides' times, each also against
+/// that of the line before, and the ratio of the two.
+fn growth_lines<const N: usize>(lines: [(String, Rounds); N]) {
+    let mut last: Option<[f64; 2]> = None;
+    for (name, rounds) in lines {
+        let times = [rounds.library(), rounds.other()];
+        let growth = |side: usize| {
+            last.map_or(String::new(), |last| format!("× {:.2}", times[side] / last[side]))
+        };
+        println!(
+            "| {name} | {} | {} | {} | {} | {:.2} |",
+            time(times[0]),
+            growth(0),
+            time(times[1]),
+            growth(1),
+            rounds.ratio()
+        );
+        last = Some(times);
+    }
 }
 
 /// (a) Soundness of ledger and postings against a loop that takes the maximum of
@@ -458,7 +480,9 @@ fn main() {
     confirmations();
     opening::openings();
     lost_contest();
+    annulments::unwinding();
     growth();
     opening::growth();
+    annulments::growth();
     stamps();
 }

@@ -3,20 +3,26 @@
 
 use luddrisa::{calls, Action, Flags, Profiles, RequestType, Status};
 
-use crate::{full_ledger, line, side_by_side, time, unknown, Desk, Rounds, HOLDER, PROVIDER};
+use crate::{
+    full_ledger, growth_lines, line, side_by_side, unknown, Desk, Rounds, HOLDER, PROVIDER,
+};
 
 /// Rows of one chain of the mixed ledger.
 const CHAIN: u32 = 8;
 
 /// How the rows are related.
 #[derive(Clone, Copy)]
-enum Shape {
+pub enum Shape {
     /// Each row is a resale of the one before.
     Chain,
     /// Every row is a resale of the first.
     Wide,
     /// Chains of an original, five resales, a non-firm redirect and its relinquish record.
     Mixed,
+    /// Each row is a resale of all of the one before.
+    Resold,
+    /// Each row is a firm redirect of all of the one before, to the other of two paths.
+    Redirected,
 }
 
 /// What a row asks for: type, related reference, megawatts in every hour, path.
@@ -40,11 +46,18 @@ impl Shape {
                 let related = if place == 0 { 0 } else { reference - 1 };
                 (reqtype, related, CHAIN - place, chain % 64 + 1)
             }
+            Shape::Resold | Shape::Redirected if reference == 1 => {
+                (RequestType::ORIGINAL_FIRM, 0, 100, 1)
+            }
+            Shape::Resold => (RequestType::RESALE, reference - 1, 100, 1),
+            Shape::Redirected => {
+                (RequestType::REDIRECT_FIRM, reference - 1, 100, (reference - 1) % 2 + 1)
+            }
         }
     }
 
     /// The ledger, made by actions.
-    fn ledger(self, rows: u32, hours: u32) -> Desk {
+    pub fn ledger(self, rows: u32, hours: u32) -> Desk {
         let mut profiles = Profiles::new();
         let mut level = |mw: u32| profiles.add(&vec![mw; hours as usize]);
         let carries = level(100_000);
@@ -99,25 +112,10 @@ pub fn growth() {
     let by_rows = [(128, 186), (256, 186), (512, 186), (1_024, 186)];
     let by_hours = [(256, 93), (256, 186), (256, 372), (256, 744)];
     for sizes in [by_rows, by_hours] {
-        let mut last = None;
-        for (rows, hours) in sizes {
+        growth_lines(sizes.map(|(rows, hours)| {
             let rounds = rounds(&mut Shape::Mixed.ledger(rows, hours));
-            let times = [rounds.library(), rounds.other()];
-            let growth = |side: usize| {
-                last.map_or(String::new(), |last: [f64; 2]| {
-                    format!("× {:.2}", times[side] / last[side])
-                })
-            };
-            println!(
-                "| {rows} | {hours} | {} | {} | {} | {} | {:.2} |",
-                time(times[0]),
-                growth(0),
-                time(times[1]),
-                growth(1),
-                rounds.ratio()
-            );
-            last = Some(times);
-        }
+            (format!("{rows} | {hours}"), rounds)
+        }));
     }
 }
 
@@ -128,7 +126,8 @@ mod tests {
 
     #[test]
     fn the_ledgers_are_as_they_say() {
-        for shape in [Shape::Chain, Shape::Wide, Shape::Mixed] {
+        use Shape::{Chain, Mixed, Redirected, Resold, Wide};
+        for shape in [Chain, Wide, Mixed, Resold, Redirected] {
             let ledger = Ledger::open(&shape.ledger(24, 2).ledger).expect("it opens");
             assert_eq!(ledger.head().unwrap().used, 24);
             let mut types = [0; 9];
@@ -137,15 +136,15 @@ mod tests {
                 assert_eq!((row.status, row.granted[1] > 0), (Status::CONFIRMED, true));
                 types[row.reqtype.0 as usize] += 1;
                 let related = match shape {
-                    Shape::Chain => reference - 1,
-                    Shape::Wide => u32::from(reference > 1),
-                    Shape::Mixed if reference % 8 == 1 => 0,
-                    Shape::Mixed => reference - 1,
+                    Wide => u32::from(reference > 1),
+                    Mixed if reference % 8 == 1 => 0,
+                    _ => reference - 1,
                 };
                 assert_eq!(row.related, related);
             }
             let expected = match shape {
-                Shape::Mixed => [0, 3, 0, 15, 0, 3, 0, 0, 3],
+                Mixed => [0, 3, 0, 15, 0, 3, 0, 0, 3],
+                Redirected => [0, 1, 0, 0, 23, 0, 0, 0, 0],
                 _ => [0, 1, 0, 23, 0, 0, 0, 0, 0],
             };
             assert_eq!(types, expected);

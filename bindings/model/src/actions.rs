@@ -67,7 +67,12 @@ pub(crate) fn both_sound(ledger: &[u32], postings: &[u32]) -> bool {
 }
 
 /// The answer to one action on a sound ledger and its postings.
-fn answer(ledger: &mut [u32], postings: &mut [u32], words: &[u32], action: &Action) -> Answer {
+pub(crate) fn answer(
+    ledger: &mut [u32],
+    postings: &mut [u32],
+    words: &[u32],
+    action: &Action,
+) -> Answer {
     if !(SUBMIT..=POST).contains(&action.kind) {
         return Answer::refused(BAD_CODE);
     }

@@ -1,6 +1,6 @@
 //! The hourly reservation ledger of document 01 with the path limits, the kept
-//! reductions, the balance on opening and the first refusal of document 02, written
-//! from the papers alone.
+//! reductions, the balance on opening, the first refusal and the annulments in order of
+//! document 02, written from the papers alone.
 //!
 //! A ledger is a slice of 32-bit words: a head of 8 words, then R rows of
 //! 16 + 5 × H words each. What the provider posts for each path and hour stands
@@ -11,6 +11,7 @@
 //! one pass for soundness, no state beside the words.
 
 mod actions;
+mod annulments;
 mod contest;
 mod layout;
 mod open;
@@ -21,6 +22,7 @@ mod stamp;
 mod tally;
 
 pub use actions::{act, batch, create};
+pub use annulments::{annulment, annuls_in_order};
 pub use contest::{contest, Contest};
 pub use layout::*;
 pub use open::{open, row_balances, tree_balances};

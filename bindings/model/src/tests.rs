@@ -1,4 +1,4 @@
-//! The day at the desk, each refusal once, and contests.
+//! The day at the desk, each refusal once, contests, and annulments in order.
 
 use super::*;
 
@@ -119,8 +119,22 @@ impl Desk {
         }
     }
 
+    fn annuls(&self, references: &[u32]) -> bool {
+        annuls_in_order(&self.ledger, &self.postings, references)
+    }
+
     fn field(&self, reference: u32, field: usize) -> u32 {
         Row::of(&self.ledger, reference).get(&self.ledger, field)
+    }
+
+    fn set(&mut self, reference: u32, field: usize, word: u32) {
+        Row::of(&self.ledger, reference).set(&mut self.ledger, field, word);
+    }
+
+    /// Words of a profile that no list leaves behind.
+    fn set_profile(&mut self, reference: u32, profile: usize, words: &[u32]) {
+        let place = Row::of(&self.ledger, reference).profile(profile);
+        self.ledger[place].copy_from_slice(words);
     }
 
     fn profile(&self, reference: u32, profile: usize) -> &[u32] {
@@ -209,9 +223,9 @@ const DAY: [[u32; 6]; 14] = [
     [14, 15, 0, 0, 0, 0],
 ];
 
-#[test]
-fn day_at_the_desk() {
-    let list: [(Action, &[u32]); 14] = [
+/// The day's actions with their profiles.
+fn day() -> [(Action, &'static [u32]); 14] {
+    [
         (submission(10, ORIGINAL_FIRM, 1, 0, 0, 4, 0, 500), &[100; 4]),
         (seller(1, 1, ACCEPTED, 500), &[]),
         (customer(10, 1, CONFIRMED, 500), &[]),
@@ -226,13 +240,23 @@ fn day_at_the_desk() {
         (seller(1, 5, ACCEPTED, 0), &[]),
         (seller(10, 2, ANNULLED, 0), &[]),
         (seller(1, 3, ANNULLED, 0), &[]),
-    ];
+    ]
+}
+
+/// The day's ledger before its first action: paths 1 and 2 are posted at 100.
+fn before_the_day() -> Desk {
     let mut desk = Desk::with_nothing_posted(8, 4);
     for path in [1, 2] {
         assert_eq!(desk.act(posting(path, 0, 4), &[100; 4]), Answer::default());
     }
+    desk
+}
+
+#[test]
+fn day_at_the_desk() {
+    let mut desk = before_the_day();
     let mut lines = Vec::new();
-    for (number, (action, profile)) in (1..).zip(list) {
+    for (number, (action, profile)) in (1..).zip(day()) {
         let answer = desk.act(action, profile);
         lines.push([
             number,
@@ -1389,4 +1413,347 @@ fn a_lost_contest_frees_its_path() {
     desk.ok(accept, &[]);
     assert_eq!(path_use(&desk.ledger, 1), [0, 100, 100, 100, 100, 100]);
     assert_eq!(balanced(&desk.ledger, &desk.tally), Ok(()));
+}
+
+// Annulments in order.
+
+/// The day's ledger after so many of its actions.
+fn day_after(actions: usize) -> Desk {
+    let mut desk = before_the_day();
+    for (action, profile) in &day()[..actions] {
+        desk.act(*action, profile);
+    }
+    desk
+}
+
+/// All lists of some references, each named at most once, the empty one first.
+fn orders(references: &[u32]) -> Vec<Vec<u32>> {
+    let mut orders = vec![Vec::new()];
+    let mut next = 0;
+    while next < orders.len() {
+        for &reference in references {
+            if !orders[next].contains(&reference) {
+                orders.push([&orders[next][..], &[reference]].concat());
+            }
+        }
+        next += 1;
+    }
+    orders
+}
+
+#[test]
+fn the_chain_of_the_day_is_unwound_from_its_ends() {
+    // Before row 1 is displaced: 2 and 3 came from it, and 4 is open and preconfirmed.
+    let desk = day_after(9);
+    for right in [&[][..], &[2], &[3], &[4], &[2, 3, 1], &[3, 2, 1], &[3, 4, 2, 1], &[2, 3, 1, 4]] {
+        assert!(desk.annuls(right), "{right:?}");
+    }
+    for wrong in [&[1][..], &[1, 2, 3], &[2, 1], &[2, 1, 3], &[3, 1, 2], &[4, 1], &[3, 4, 1, 2]] {
+        assert!(!desk.annuls(wrong), "{wrong:?}");
+    }
+    // Row 1 can go once both are gone, and no other row waits for any.
+    let all = orders(&[1, 2, 3, 4]);
+    assert_eq!(all.len(), 1 + 4 + 12 + 24 + 24);
+    let mut unwound = 0;
+    for order in &all {
+        let place = |reference| order.iter().position(|&named| named == reference);
+        let before_1 = |reference| place(reference).is_some_and(|at| Some(at) < place(1));
+        let expected = place(1).is_none() || before_1(2) && before_1(3);
+        assert_eq!(desk.annuls(order), expected, "{order:?}");
+        unwound += u32::from(expected);
+    }
+    // Without 1 these are 1 + 3 + 6 + 6, with it 2 of three references and 8 of four.
+    assert_eq!(unwound, 16 + 2 + 8);
+}
+
+#[test]
+fn a_reference_is_named_once_and_there() {
+    let desk = day_after(9);
+    for wrong in [
+        &[2, 2][..],
+        &[4, 4],
+        &[2, 3, 2],
+        &[2, 3, 1, 1],
+        &[0],
+        &[5],
+        &[u32::MAX],
+        &[2, 3, 1, 0],
+        &[2, 5, 3],
+        &[0, 2],
+        // Longer than the rows used, whatever is named.
+        &[2, 3, 1, 4, 4],
+        &[4, 3, 2, 1, 5],
+        &[2, 3, 1, 4, 2, 3, 1, 4, 0],
+    ] {
+        assert!(!desk.annuls(wrong), "{wrong:?}");
+    }
+    // The eight rows of the ledger are not all used.
+    assert!((5..=9).all(|reference| !desk.annuls(&[reference])));
+}
+
+#[test]
+fn the_rest_of_the_day_is_unwound() {
+    // Row 1 is displaced, and what comes back goes to its displaced.
+    let desk = day_after(10);
+    for (order, expected) in
+        [(&[2, 3][..], true), (&[3, 2, 4], true), (&[1], false), (&[2, 3, 1], false)]
+    {
+        assert_eq!(desk.annuls(order), expected, "{order:?}");
+    }
+    // Of row 3 some was given back by record 5, which never goes from 13.
+    let mut desk = day_after(12);
+    for (order, expected) in [
+        (&[2][..], true),
+        (&[4, 2], true),
+        (&[3], false),
+        (&[5], false),
+        (&[5, 3], false),
+        (&[2, 5], false),
+    ] {
+        assert_eq!(desk.annuls(order), expected, "{order:?}");
+    }
+    // A record that is still open may go, and then the redirect is whole.
+    desk.set(5, STATUS, QUEUED);
+    desk.set_profile(3, AVAILABLE, &[0, 0, 40, 50]);
+    assert!(desk.annuls(&[5, 3]) && desk.annuls(&[3, 5]));
+}
+
+#[test]
+fn any_words_are_unwound() {
+    let mut desk = day_after(9);
+    let good = desk.postings.clone();
+    let wrong = [vec![], vec![0; 64 * 3], vec![0; 64 * 4 - 1], vec![0; 64 * 5]];
+    let mut high = good.clone();
+    high[64 * 4 - 1] = 100_001;
+    for postings in wrong.into_iter().chain([high]) {
+        desk.postings = postings;
+        assert!(desk.annuls(&[]));
+        assert!(!desk.annuls(&[2]) && !desk.annuls(&[4]) && !desk.annuls(&[0]));
+    }
+    desk.postings = good;
+    desk.ledger[HEAD_ZERO] = 1;
+    assert!(desk.annuls(&[]));
+    assert!(!desk.annuls(&[2]) && !desk.annuls(&[4]) && !desk.annuls(&[0]));
+    for words in [vec![], vec![5; 3], vec![u32::MAX; 8], vec![1; 400]] {
+        assert!(annuls_in_order(&words, &desk.postings, &[]));
+        assert!(!annuls_in_order(&words, &desk.postings, &[1]));
+        assert!(annuls_in_order(&words, &words, &[]));
+        assert!(!annuls_in_order(&words, &words, &[0]));
+    }
+}
+
+#[test]
+fn each_status_is_unwound_or_not() {
+    let mut desk = Desk::new(2, 1);
+    desk.original(ORIGINAL_FIRM, 100);
+    desk.original(ORIGINAL_NON_FIRM, 100);
+    for flags in [PRECONFIRMED, 0] {
+        for status in QUEUED..=RETRACTED {
+            desk.set(1, FLAGS, flags);
+            desk.set(1, STATUS, status);
+            let expected = status == CONFIRMED || is_open(status) && flags == PRECONFIRMED;
+            assert_eq!(desk.annuls(&[1]), expected, "{status} with flags {flags}");
+            assert_eq!(desk.annuls(&[2, 1]), expected, "{status} with flags {flags}");
+        }
+    }
+}
+
+#[test]
+fn a_firm_redirect_waits_for_its_old_path() {
+    let mut desk = Desk::with_nothing_posted(8, 1);
+    desk.ok(posting(1, 0, 1), &[100]);
+    desk.ok(posting(2, 0, 1), &[40]);
+    let one = desk.original(ORIGINAL_FIRM, 100);
+    let redirect = desk.derived(REDIRECT_FIRM, one, 2, &[40]);
+    let resold = desk.derived(RESALE, redirect, 2, &[15]);
+    // Path 1 is sold again, and so is full.
+    let next = desk.original(ORIGINAL_FIRM, 40);
+    for (order, expected) in [
+        (&[resold][..], true),
+        (&[redirect], false),
+        (&[resold, redirect], false),
+        (&[next, resold, redirect], true),
+        (&[resold, next, redirect], true),
+        (&[resold, redirect, next], false),
+        (&[next, redirect, resold], false),
+        (&[next, resold, redirect, one], true),
+        (&[resold, next, redirect, one], true),
+        (&[next, resold, one, redirect], false),
+        (&[resold, redirect, next, one], false),
+        (&[one, next, resold, redirect], false),
+    ] {
+        assert_eq!(desk.annuls(order), expected, "{order:?}");
+    }
+    // With a megawatt more it need not wait, with one less path 2 is over as well.
+    desk.postings[0] = 140;
+    assert!(desk.annuls(&[resold, redirect, next, one]));
+    desk.postings[0] = 139;
+    assert!(!desk.annuls(&[resold, redirect, next, one]));
+    desk.postings[0] = 140;
+    desk.postings[1] = 39;
+    assert!(!desk.annuls(&[resold]));
+    assert!(desk.annuls(&[next]));
+}
+
+#[test]
+fn rows_partly_used_are_not_unwound() {
+    let mut desk = Desk::new(8, 2);
+    let one = desk.original(ORIGINAL_FIRM, 100);
+    let two = desk.derived(RESALE, one, 1, &[60, 60]);
+    let three = desk.derived(RESALE, two, 1, &[0, 20]);
+    assert!(!desk.annuls(&[two]) && !desk.annuls(&[two, three]));
+    assert!(desk.annuls(&[three, two, one]));
+    // What was reduced does not come back.
+    desk.ok(on(REDUCE, 1, two), &[1, 0]);
+    assert!(desk.annuls(&[three]));
+    assert!(!desk.annuls(&[three, two]) && !desk.annuls(&[three, two, one]));
+    // As many in all, but not in each hour.
+    desk.set_profile(two, AVAILABLE, &[61, 39]);
+    assert!(!desk.annuls(&[three, two]));
+    desk.set_profile(two, AVAILABLE, &[60, 40]);
+    assert!(desk.annuls(&[three, two]));
+}
+
+#[test]
+fn a_row_that_goes_first_takes_what_comes_later_as_displaced() {
+    let mut desk = Desk::new(4, 1);
+    let one = desk.original(ORIGINAL_FIRM, 100);
+    let two = desk.derived(RESALE, one, 1, &[50]);
+    let three = desk.derived(RESALE, one, 1, &[50]);
+    // Words that no list leaves behind: row 1 has all that it was granted, and more was
+    // resold, and little room is left in its displaced.
+    desk.set_profile(one, AVAILABLE, &[100]);
+    for profile in [GRANTED, AVAILABLE] {
+        desk.set_profile(three, profile, &[60]);
+    }
+    desk.set_profile(one, DISPLACED_MW, &[99_891]);
+    assert!(sound(&desk.ledger));
+    for (order, expected) in [
+        (&[one][..], true),
+        (&[one, two], true),
+        (&[one, three], true),
+        // 99,891 and 110 pass 100,000.
+        (&[one, two, three], false),
+        (&[one, three, two], false),
+        // What comes before goes to its available, and then it has more than granted.
+        (&[two, three], true),
+        (&[two, one], false),
+        (&[two, one, three], false),
+    ] {
+        assert_eq!(desk.annuls(order), expected, "{order:?}");
+    }
+    desk.set_profile(one, DISPLACED_MW, &[99_890]);
+    assert!(desk.annuls(&[one, two, three]) && desk.annuls(&[one, three, two]));
+    // The same where it is displaced already.
+    desk.set(one, STATUS, DISPLACED);
+    assert!(desk.annuls(&[two, three]) && !desk.annuls(&[one, two]));
+    desk.set_profile(one, DISPLACED_MW, &[99_891]);
+    assert!(!desk.annuls(&[two, three]) && !desk.annuls(&[three, two]));
+    assert!(desk.annuls(&[two]) && desk.annuls(&[three]));
+    // An available word that would pass is over any posting before; once the row is gone
+    // nothing goes there.
+    desk.set(one, STATUS, CONFIRMED);
+    for profile in [GRANTED, AVAILABLE] {
+        desk.set_profile(one, profile, &[99_951]);
+    }
+    assert!(!desk.annuls(&[two]) && desk.annuls(&[one, two]));
+}
+
+#[test]
+fn a_non_firm_redirect_keeps_a_path_free_while_its_row_stands() {
+    let mut desk = Desk::new(4, 1);
+    let one = desk.original(ORIGINAL_FIRM, 100);
+    let redirect = desk.derived(REDIRECT_NON_FIRM, one, 2, &[40]);
+    let other = desk.original(ORIGINAL_FIRM, 100);
+    // Words that no list leaves behind: nothing was taken from row 1.
+    desk.set_profile(one, AVAILABLE, &[100]);
+    // Path 1 is used by rows 1 and 3 and kept free for row 2, 240 in all.
+    for (posted, order, expected) in [
+        (240, &[other][..], true),
+        (139, &[other], false),
+        (140, &[other], true),
+        // Once row 1 is gone nothing returns to path 1.
+        (100, &[one], true),
+        (99, &[one], false),
+        (0, &[one, other], false),
+        (100, &[one, other, redirect], true),
+        (100, &[one, redirect, other], true),
+        (139, &[other, one], false),
+        (140, &[other, one, redirect], true),
+        // Before that it does, and is then too much for row 1.
+        (239, &[redirect], false),
+        (240, &[redirect], true),
+        (140, &[other, redirect], true),
+        (139, &[other, redirect], false),
+        (240, &[redirect, one], false),
+    ] {
+        desk.postings[0] = posted;
+        assert_eq!(desk.annuls(order), expected, "{order:?} with {posted}");
+    }
+    // On path 2 it is carried, as long as it is not gone.
+    desk.postings[0] = MAX_MW;
+    desk.postings[1] = 0;
+    assert!(desk.annuls(&[redirect]) && desk.annuls(&[one, redirect]));
+}
+
+#[test]
+fn a_row_need_not_wait_for_what_was_relinquished() {
+    let mut desk = Desk::new(4, 2);
+    let one = desk.original(ORIGINAL_FIRM, 100);
+    let redirect = desk.derived(REDIRECT_NON_FIRM, one, 2, &[40, 30]);
+    let record = desk.derived(RELINQUISH, redirect, 2, &[40, 29]);
+    assert!(!desk.annuls(&[one]) && !desk.annuls(&[redirect]) && !desk.annuls(&[record]));
+    let rest = desk.derived(RELINQUISH, redirect, 2, &[0, 1]);
+    // All of the redirect is back, so row 1 can go, but the redirect never can.
+    assert!(desk.annuls(&[one]));
+    for order in [[redirect, one], [one, redirect], [one, record], [rest, one]] {
+        assert!(!desk.annuls(&order), "{order:?}");
+    }
+}
+
+#[test]
+fn annulments_are_the_sellers_alone() {
+    let mut desk = Desk::new(4, 1);
+    let one = desk.original(ORIGINAL_FIRM, 100);
+    let two = desk.derived(RESALE, one, 1, &[50]);
+    assert_eq!(annulment(&desk.ledger, two), Some(seller(10, two, ANNULLED, 0)));
+    assert_eq!(annulment(&desk.ledger, one), Some(seller(1, one, ANNULLED, 0)));
+    assert_eq!((annulment(&desk.ledger, 0), annulment(&desk.ledger, 3)), (None, None));
+    // Whoever it is, and whoever the provider is.
+    for sold_by in [1, 10, 77, 65_535] {
+        desk.set(one, SELLER, sold_by);
+        desk.set(two, SELLER, 65_535 - sold_by + 1);
+        for provider in [1, 2, 65_535] {
+            desk.ledger[PROVIDER] = provider;
+            assert!(desk.annuls(&[two, one]) && !desk.annuls(&[one]));
+        }
+    }
+}
+
+#[test]
+fn chains_and_wide_deals_of_many_rows() {
+    let mut chain = Desk::new(64, 2);
+    chain.original(ORIGINAL_FIRM, 100);
+    // Resold and redirected to the other path in turn.
+    for related in 1..64_u32 {
+        let reqtype = [RESALE, REDIRECT_FIRM][related as usize % 2];
+        let path = related.div_ceil(2) % 2 + 1;
+        chain.derived(reqtype, related, path, &[100, 100 - related]);
+    }
+    let from_the_end: Vec<u32> = (1..=64).rev().collect();
+    assert!((0..=64).all(|count| chain.annuls(&from_the_end[..count])));
+    for place in 0..63 {
+        let mut swapped = from_the_end.clone();
+        swapped.swap(place, place + 1);
+        assert!(!chain.annuls(&swapped), "{place}");
+    }
+    let mut wide = Desk::new(64, 1);
+    wide.original(ORIGINAL_FIRM, 63);
+    for _ in 1..64 {
+        wide.derived(RESALE, 1, 1, &[1]);
+    }
+    let mut from_the_front: Vec<u32> = (2..=64).chain([1]).collect();
+    assert!(wide.annuls(&from_the_end) && wide.annuls(&from_the_front));
+    from_the_front.swap(62, 63);
+    assert!(!wide.annuls(&from_the_front));
 }

@@ -44,6 +44,14 @@ mod extern_c {
             replies: *const u32,
             replies_len: usize,
         ) -> Answer;
+        pub fn luddrisa_annuls_in_order(
+            ledger: *const u32,
+            ledger_len: usize,
+            postings: *const u32,
+            postings_len: usize,
+            references: *const u32,
+            references_len: usize,
+        ) -> u32;
         pub fn luddrisa_charge(
             ledger: *const u32,
             len: usize,
@@ -145,6 +153,22 @@ pub fn contest(
             moves.len(),
             replies.as_ptr(),
             replies.len(),
+        )
+    }
+}
+
+/// Tells whether annulling the references in that order, each by its row's seller, is
+/// accepted at every step: 1 yes, 0 no. All slices are only read.
+pub fn annuls_in_order(ledger: &[u32], postings: &[u32], references: &[u32]) -> u32 {
+    // SAFETY: the pointers and the lengths are those of slices lent for the call.
+    unsafe {
+        extern_c::luddrisa_annuls_in_order(
+            ledger.as_ptr(),
+            ledger.len(),
+            postings.as_ptr(),
+            postings.len(),
+            references.as_ptr(),
+            references.len(),
         )
     }
 }

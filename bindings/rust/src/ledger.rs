@@ -323,6 +323,44 @@ impl Ledger {
         calls::contest(&mut self.words, &postings.words, contest, &moves, &replies)
     }
 
+    /// True where a deal chain can be unwound so: where annulling the references in that
+    /// order, each by its row's seller and each on what the one before left, is accepted
+    /// at every step. Nothing is annulled.
+    ///
+    /// True for no references at all, whatever the words are. False where a reference is
+    /// named twice or is not there, and so for more references than rows are used. A row
+    /// goes only when all that was taken from it has come back, so what came from it is
+    /// named before, unless it was relinquished; a firm redirect goes only when there is
+    /// room on the path it left, which rows named before may make. An open preconfirmed
+    /// row may be named anywhere, for it moves nothing.
+    ///
+    /// ```
+    /// use luddrisa::{Action, Flags, Ledger, Postings, Profiles, Refusal, RequestType, Status};
+    ///
+    /// // Customer 10 holds 100 MW and resells 40 of them to 20.
+    /// let mut ledger = Ledger::create(8, 4, 1, 3_600, 0)?;
+    /// let mut postings = Postings::none(&ledger);
+    /// let mut profiles = Profiles::new();
+    /// let all_day = profiles.add(&[100; 4]);
+    /// let original = Action::submit(10, RequestType::ORIGINAL_FIRM, 1).profile(all_day);
+    /// let resale = Action::submit(20, RequestType::RESALE, 10).related(1);
+    /// let list = [
+    ///     Action::post(1, 7).span(0, 4).profile(all_day),
+    ///     original.path(7).span(0, 4).flags(Flags::PRECONFIRMED),
+    ///     Action::seller_status(1, 1, Status::ACCEPTED),
+    ///     resale.path(7).span(1, 2).flags(Flags::PRECONFIRMED).profile(profiles.add(&[40])),
+    ///     Action::seller_status(10, 2, Status::ACCEPTED),
+    /// ];
+    /// ledger.answers(&mut postings, profiles.words(), &list);
+    ///
+    /// assert!(ledger.annuls_in_order(&postings, &[2, 1]));
+    /// assert!(!ledger.annuls_in_order(&postings, &[1, 2]));
+    /// # Ok::<(), Refusal>(())
+    /// ```
+    pub fn annuls_in_order(&self, postings: &Postings, references: &[u32]) -> bool {
+        calls::annuls_in_order(&self.words, &postings.words, references) == 1
+    }
+
     /// The charge of a CONFIRMED row in cents: MW-hours granted × bid ÷ 24, a
     /// half up.
     pub fn charge(&self, reference: u32) -> Result<u64, Refusal> {

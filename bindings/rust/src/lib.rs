@@ -61,6 +61,8 @@
 //! goes by what was granted and ignores reductions, resales and transfers.
 //! Two actions on rows of different originals' trees, with no path in rows of both,
 //! come to the same in either order, unless one submits, posts or sets the clock.
+//! When a deal chain is unwound, resales are annulled before what they came from:
+//! [`Ledger::annuls_in_order`] tells whether an order would do, and annuls nothing.
 //! A contest is a call of its own and no action. Only a firm row is contested, and
 //! only by its seller; a match keeps the row as it is and does not lengthen it. A row
 //! over all hours of its ledger can't be lost, for no longer term can be named.

@@ -514,6 +514,121 @@ fn any_words_are_contested() {
     assert_eq!(run(&[Reply::Match]).to_string(), "0 1 13 13 0");
 }
 
+/// A confirmed row of customer 10 over both hours of the ledger, in as many actions as it
+/// takes.
+fn deal_row(
+    profiles: &mut Profiles,
+    reqtype: RequestType,
+    (reference, related, path): (u32, u32, u32),
+    mw: u32,
+) -> [Action; 2] {
+    let seller = if reqtype == RequestType::RESALE { 10 } else { 1 };
+    let submitted = Action::submit(10, reqtype, seller)
+        .path(path)
+        .related(related)
+        .span(0, 2)
+        .flags(Flags::PRECONFIRMED)
+        .profile(profiles.add(&[mw; 2]));
+    [submitted, Action::seller_status(seller, reference, Status::ACCEPTED)]
+}
+
+/// Of 100 MW on path 1, 60 are resold, 50 of these redirected to path 2 and 20 of these
+/// resold; path 1 is then sold out by a second original, and a last resale is still open.
+fn with_a_deal_chain() -> (Ledger, Postings) {
+    let mut ledger = Ledger::create(8, 2, 1, 3_600, 0).unwrap();
+    let mut postings = Postings::none(&ledger);
+    let mut profiles = Profiles::new();
+    let full = profiles.add(&[100; 2]);
+    let mut list = [1, 2].map(|path| Action::post(1, path).span(0, 2).profile(full)).to_vec();
+    list.extend(deal_row(&mut profiles, RequestType::ORIGINAL_FIRM, (1, 0, 1), 100));
+    list.extend(deal_row(&mut profiles, RequestType::RESALE, (2, 1, 1), 60));
+    list.extend(deal_row(&mut profiles, RequestType::REDIRECT_FIRM, (3, 2, 2), 50));
+    list.extend(deal_row(&mut profiles, RequestType::RESALE, (4, 3, 2), 20));
+    list.extend(deal_row(&mut profiles, RequestType::ORIGINAL_FIRM, (5, 0, 1), 50));
+    list.push(deal_row(&mut profiles, RequestType::RESALE, (6, 1, 1), 1)[0]);
+    let answers = ledger.answers(&mut postings, profiles.words(), &list);
+    assert!(answers.iter().all(Answer::is_accepted), "{answers:?}");
+    (ledger, postings)
+}
+
+#[test]
+fn a_deal_chain_is_unwound_from_its_end() {
+    let (ledger, postings) = with_a_deal_chain();
+    let before = (ledger.clone(), postings.clone());
+    for (order, expected) in [
+        (&[][..], true),
+        (&[4], true),
+        (&[5, 4, 3, 2, 1], true),
+        (&[4, 5, 3, 2, 1], true),
+        (&[4, 6, 5, 3, 2, 1], true),
+        (&[5, 4, 3, 2, 1, 6], true),
+        // Path 1 has no room for the redirect's return as long as 5 is there.
+        (&[4, 3], false),
+        (&[4, 3, 5, 2, 1], false),
+        // What came from a row is still there.
+        (&[3], false),
+        (&[5, 3, 4], false),
+        (&[5, 4, 2, 3], false),
+        (&[1], false),
+        // Named twice, or not there.
+        (&[4, 4], false),
+        (&[6, 5, 6], false),
+        (&[0], false),
+        (&[7], false),
+        (&[5, 4, 3, 2, 1, 6, 7], false),
+        (&[5, 4, u32::MAX], false),
+    ] {
+        assert_eq!(ledger.annuls_in_order(&postings, order), expected, "{order:?}");
+    }
+    assert_eq!((ledger, postings), before);
+}
+
+#[test]
+fn what_can_be_unwound_is() {
+    let (ledger, postings) = with_a_deal_chain();
+    let order = [5, 4, 3, 2, 1];
+    let annul = |&reference: &u32| {
+        let seller = ledger.row(reference).unwrap().seller;
+        Action::seller_status(seller, reference, Status::ANNULLED)
+    };
+    let list: Vec<_> = order.iter().map(annul).collect();
+    let (mut after, mut posted) = (ledger.clone(), postings.clone());
+    let answers = after.answers(&mut posted, &[], &list);
+    assert!(answers.iter().all(Answer::is_accepted), "{answers:?}");
+    assert!(ledger.annuls_in_order(&postings, &order));
+    // They can't go again, but the open row still can.
+    assert!(order.iter().all(|&reference| !after.annuls_in_order(&posted, &[reference])));
+    assert!(after.annuls_in_order(&posted, &[6]));
+}
+
+#[test]
+fn any_words_are_unwound() {
+    let (ledger, good) = with_a_deal_chain();
+    let mut high = good.words().to_vec();
+    high[127] = 100_001;
+    for words in [vec![], vec![0; 127], vec![0; 129], high] {
+        let postings = Postings::from_words(words);
+        assert!(ledger.annuls_in_order(&postings, &[]));
+        assert!(
+            !ledger.annuls_in_order(&postings, &[4]) && !ledger.annuls_in_order(&postings, &[6])
+        );
+    }
+    for words in [vec![], vec![5; 3], vec![u32::MAX; 8], vec![1; 400]] {
+        let ledger = Ledger::from_words_unopened(words);
+        assert!(ledger.annuls_in_order(&good, &[]));
+        assert!(!ledger.annuls_in_order(&good, &[1]) && !ledger.annuls_in_order(&good, &[0]));
+    }
+    // A word that would pass 100,000: 50 come back to a row that is no longer confirmed.
+    let mut words = ledger.into_words();
+    let resale = 8 + (16 + 5 * 2);
+    words[resale + 1] = Status::DISPLACED.0;
+    for (displaced, expected) in [(99_950, true), (99_951, false)] {
+        words[resale + 16 + 3 * 2] = displaced;
+        let ledger = Ledger::from_words_unopened(words.clone());
+        assert_eq!(ledger.annuls_in_order(&good, &[4, 3]), expected, "{displaced}");
+    }
+}
+
 #[test]
 fn stamps_go_both_ways() {
     assert_eq!(read_stamp(b"20070423060000ES"), Ok(230_641_200));

@@ -182,20 +182,18 @@ fn any_ledger(run: &mut Run, rng: &mut Rng) -> Result<(), Difference> {
         }
     }
     strategies(run, rng, &start)?;
-    wrong_grounds(run, rng, &start)
+    on_wrong_grounds(run, rng, &start)
 }
 
-/// A contest with words that are no ledger or no postings, and the same by no entity.
-fn wrong_grounds(run: &mut Run, rng: &mut Rng, start: &Desk) -> Result<(), Difference> {
-    let play = any_play(rng, start.ledger());
-    let by_none = Play { contest: Contest { actor: 0, ..play.contest }, ..play.clone() };
+/// The same start with words that are no ledger or no postings.
+pub(crate) fn wrong_grounds(rng: &mut Rng, start: &Desk) -> [Desk; 8] {
     let (ledger, postings) = (start.ledger(), start.postings());
     let mut over = start.clone();
     over.postings.set(rng.below(postings.len() as u32) as usize, MAX_MW + 1);
     let mut unsound = start.clone();
     unsound.ledger.set(rng.below(8) as usize, u32::MAX);
     let both = Desk::new(unsound.ledger(), &postings[1..]);
-    for mut desk in [
+    [
         over,
         unsound,
         both,
@@ -204,7 +202,14 @@ fn wrong_grounds(run: &mut Run, rng: &mut Rng, start: &Desk) -> Result<(), Diffe
         Desk::new(&ledger[1..], postings),
         Desk::new(&ledger[..ledger.len() - 1], postings),
         Desk::new(&[], postings),
-    ] {
+    ]
+}
+
+/// A contest with such words, and the same by no entity.
+fn on_wrong_grounds(run: &mut Run, rng: &mut Rng, start: &Desk) -> Result<(), Difference> {
+    let play = any_play(rng, start.ledger());
+    let by_none = Play { contest: Contest { actor: 0, ..play.contest }, ..play.clone() };
+    for mut desk in wrong_grounds(rng, start) {
         for play in [&play, &by_none] {
             let answer = run.contest(&mut desk, play)?;
             assert_eq!(answer, Answer::refused(BAD_LEDGER));
@@ -576,11 +581,20 @@ fn two_hours_of_five() -> Vec<u32> {
     ledger
 }
 
-/// All lists of up to two words.
-fn lists_of(words: &[u32]) -> Vec<Vec<u32>> {
-    let ones = words.iter().map(|&word| vec![word]);
-    let twos = words.iter().flat_map(|&one| words.iter().map(move |&other| vec![one, other]));
-    std::iter::once(Vec::new()).chain(ones).chain(twos).collect()
+/// All lists of up to so many of the words, the shorter ones first.
+pub(crate) fn lists_of(words: &[u32], most: usize) -> Vec<Vec<u32>> {
+    let mut lists = vec![Vec::new()];
+    let mut first = 0;
+    for _ in 0..most {
+        let end = lists.len();
+        for list in first..end {
+            for &word in words {
+                lists.push([&lists[list][..], &[word]].concat());
+            }
+        }
+        first = end;
+    }
+    lists
 }
 
 /// A row of two hours in five, with every greatest term and all lists of up to two moves
@@ -588,8 +602,8 @@ fn lists_of(words: &[u32]) -> Vec<Vec<u32>> {
 pub fn every_term(run: &mut Run) -> Result<(), Difference> {
     const TERMS: [u32; 8] = [0, 1, 2, 3, 4, 5, 6, u32::MAX];
     let desk = Desk::new(&two_hours_of_five(), &vec![0; posting_words(5)]);
-    let all_moves = lists_of(&TERMS);
-    let all_replies = lists_of(&[YIELDS, MATCHES, u32::MAX]);
+    let all_moves = lists_of(&TERMS, 2);
+    let all_replies = lists_of(&[YIELDS, MATCHES, u32::MAX], 2);
     for challenger in TERMS {
         for holder in TERMS {
             let fit = (1..=5).contains(&challenger) && (2..=5).contains(&holder);
@@ -631,7 +645,7 @@ fn spoilt(run: &mut Run, rng: &mut Rng) -> Result<(), Difference> {
     let postings = postings_of(rng, &ledger);
     let start = Desk::new(&ledger, &postings);
     let play = accepted_play(rng, &ledger, &postings);
-    spoil_words(run, &start, &play)?;
+    spoil_words(&start, |desk| run.contest(desk, &play).map(|_| ()))?;
     spoil_fields(run, &start, &play)?;
     spoil_lists(run, &start, &play)
 }
@@ -648,27 +662,32 @@ fn accepted_play(rng: &mut Rng, ledger: &[u32], postings: &[u32]) -> Play {
     any_play(rng, ledger)
 }
 
-fn spoil_words(run: &mut Run, start: &Desk, play: &Play) -> Result<(), Difference> {
+/// The same start with each word of the ledger put to other values, some of the postings'
+/// words too, and postings of other lengths.
+pub(crate) fn spoil_words(
+    start: &Desk,
+    mut with: impl FnMut(&mut Desk) -> Result<(), Difference>,
+) -> Result<(), Difference> {
     let (ledger, postings) = (start.ledger(), start.postings());
     for (at, &word) in ledger.iter().enumerate() {
         for value in values(word, MAX_MW) {
             let mut desk = start.clone();
             desk.ledger.set(at, value);
-            run.contest(&mut desk, play)?;
+            with(&mut desk)?;
         }
     }
     for at in [0, postings.len() / 2, postings.len() - 1] {
         for value in [MAX_MW, MAX_MW + 1, u32::MAX] {
             let mut desk = start.clone();
             desk.postings.set(at, value);
-            run.contest(&mut desk, play)?;
+            with(&mut desk)?;
         }
     }
     let mut grown = postings.to_vec();
     grown.extend([0; 65]);
     let len = postings.len();
     for length in [0, 1, len - 64, len - 1, len + 1, len + 64, len + 65] {
-        run.contest(&mut Desk::new(ledger, &grown[..length]), play)?;
+        with(&mut Desk::new(ledger, &grown[..length]))?;
     }
     Ok(())
 }

@@ -108,7 +108,7 @@ pub(crate) fn set_to_use(path_postings: &mut [u32], ledger: &[u32], path: u32) {
 }
 
 /// One less in an hour that has something.
-fn lower(rng: &mut Rng, postings: &mut [u32]) {
+pub(crate) fn lower(rng: &mut Rng, postings: &mut [u32]) {
     let some: Vec<usize> = (0..postings.len()).filter(|&hour| postings[hour] > 0).collect();
     if !some.is_empty() {
         postings[rng.pick(&some)] -= 1;

@@ -4,12 +4,14 @@
 use luddrisa_model::*;
 
 use crate::edges::{laid_out, length_with};
+use crate::limits::both_paths;
 use crate::plays::Check::{self, *};
 use crate::plays::{
-    carried_out, greatest, is_firm, own_hours, would_pass, Contesting, Ending, Places, Play,
-    CONTESTING,
+    carried_out, greatest, is_firm, own_hours, row_named, would_pass, Contesting, Ending, Places,
+    Play, CONTESTING,
 };
 use crate::rules::{Model, Rules};
+use crate::unwound::{status, stopped, Left, Obstacle, Unwinding, UNWINDING};
 
 /// One action as it was handed over.
 pub struct Case<'a> {
@@ -40,6 +42,10 @@ enum Fault {
     Contest(Contesting),
     /// What it does with ledger, postings and answer after the model's contest.
     Contested(fn(&Dispute, &mut [u32], &mut [u32], &mut Answer)),
+    /// The rules of annulments in order, with one part replaced.
+    Unwind(Unwinding),
+    /// The call, for a list that is not empty on sound words.
+    AnnulsInOrder(fn(&mut [u32], &mut [u32], &[u32]) -> u32),
     Charge(fn(&[u32], u32) -> (u32, u64)),
     Profile(fn(&[u32], u32, &mut [u32]) -> usize),
     ReadStamp(fn(&[u8]) -> (u32, u32)),
@@ -62,6 +68,11 @@ impl Faulty {
     /// True where the fault is one of opening.
     pub fn is_of_opening(&self) -> bool {
         matches!(self.fault, Fault::Open(_))
+    }
+
+    /// True where the fault is one of annulments in order.
+    pub fn is_of_annulments(&self) -> bool {
+        matches!(self.fault, Fault::Unwind(_) | Fault::AnnulsInOrder(_))
     }
 
     /// True where the fault is one of contests.
@@ -131,6 +142,16 @@ impl Rules for Faulty {
                 answer
             }
             _ => Model.contest(ledger, postings, contest, moves, replies),
+        }
+    }
+
+    fn annuls_in_order(&self, ledger: &mut [u32], postings: &mut [u32], references: &[u32]) -> u32 {
+        match self.fault {
+            Fault::Unwind(by) => unwinds(&by, ledger, postings, references),
+            Fault::AnnulsInOrder(annuls) if is_tried(ledger, postings, references) => {
+                annuls(ledger, postings, references)
+            }
+            _ => Model.annuls_in_order(ledger, postings, references),
         }
     }
 
@@ -330,12 +351,6 @@ fn use_by(ledger: &[u32], path: u32, times: Times) -> Vec<u32> {
 fn over(ledger: &[u32], postings: &[u32], path: u32, times: Times) -> bool {
     let posted = &postings[posted(path, ledger[HOURS] as usize)];
     use_by(ledger, path, times).iter().zip(posted).any(|(mw, posted)| mw > posted)
-}
-
-/// The row's path and its related row's.
-fn both_paths(ledger: &[u32], row: Row) -> Vec<u32> {
-    let other = related(ledger, row).map(|related| related.get(ledger, PATH));
-    [row.get(ledger, PATH)].into_iter().chain(other).collect()
 }
 
 fn either_over(ledger: &[u32], postings: &[u32], row: Row, times: Times) -> bool {
@@ -677,6 +692,80 @@ fn has_own_class(ledger: &[u32], row: Row) -> bool {
     !matches!(row.get(ledger, TYPE), RESALE | PART_TRANSFER | FULL_TRANSFER)
 }
 
+// Annulments in order.
+
+fn unwinds(by: &Unwinding, ledger: &[u32], postings: &[u32], references: &[u32]) -> u32 {
+    u32::from(stopped(by, ledger, postings, references).is_none())
+}
+
+/// The references in the order of the rows.
+fn sorted(references: &[u32]) -> Vec<u32> {
+    let mut sorted = references.to_vec();
+    sorted.sort_unstable();
+    sorted
+}
+
+fn swapped(references: &[u32], one: usize, other: usize) -> Vec<u32> {
+    let mut swapped = references.to_vec();
+    if one.max(other) < references.len() {
+        swapped.swap(one, other);
+    }
+    swapped
+}
+
+fn filtered(references: &[u32], stays: impl Fn(usize, u32) -> bool) -> Vec<u32> {
+    let places = references.iter().copied().enumerate();
+    places.filter(|&(place, reference)| stays(place, reference)).map(|(_, one)| one).collect()
+}
+
+/// By the paper, but for rows of some types alone.
+fn gives_back_of(ledger: &[u32], row: Row, types: &[u32]) -> bool {
+    types.contains(&row.get(ledger, TYPE)) && (UNWINDING.gives_back)(ledger, row)
+}
+
+/// How often a row is in use of a path, by another test of whether rows stand CONFIRMED.
+fn in_use_of(left: &Left, reference: u32, path: u32, stands: impl Fn(u32) -> bool) -> u32 {
+    let related = left.field(reference, RELATED);
+    let on_path = |reference: u32| left.field(reference, PATH) == path;
+    let returns = left.field(reference, TYPE) == REDIRECT_NON_FIRM;
+    let kept = returns && stands(related) && on_path(related);
+    u32::from(stands(reference) && (on_path(reference) || kept))
+}
+
+/// The annulments one after the other on a copy, each by some actor: the ledger left and
+/// the answers.
+fn annulled_by(
+    ledger: &[u32],
+    postings: &[u32],
+    references: &[u32],
+    actor: impl Fn(&[u32], Row) -> u32,
+) -> (Vec<u32>, Vec<Answer>) {
+    let (mut ledger, mut postings) = (ledger.to_vec(), postings.to_vec());
+    let mut answers = Vec::new();
+    for &reference in references {
+        let by_seller = annulment(&ledger, reference);
+        answers.push(by_seller.map_or(Answer::refused(NO_REFERENCE), |action| {
+            let actor = actor(&ledger, Row::of(&ledger, reference));
+            act(&mut ledger, &mut postings, &[], &Action { actor, ..action })
+        }));
+    }
+    (ledger, answers)
+}
+
+/// The same by their sellers.
+fn annulled(ledger: &[u32], postings: &[u32], references: &[u32]) -> (Vec<u32>, Vec<Answer>) {
+    annulled_by(ledger, postings, references, |ledger, row| row.get(ledger, SELLER))
+}
+
+fn all_accepted(answers: &[Answer]) -> u32 {
+    u32::from(answers.iter().all(|answer| answer.number == 0))
+}
+
+/// True where there is something to try.
+fn is_tried(ledger: &[u32], postings: &[u32], references: &[u32]) -> bool {
+    !references.is_empty() && (UNWINDING.grounds)(ledger, postings, references).is_none()
+}
+
 // Trees that another desk works on.
 
 /// The row of an answer that confirms what comes from a related row.
@@ -770,6 +859,33 @@ const fn losing(name: &'static str, spoil: Spoil) -> Faulty {
     Faulty { unbalanced: true, ..contested(name, spoil) }
 }
 
+const fn unwinding(name: &'static str, by: Unwinding) -> Faulty {
+    Faulty { name, fault: Fault::Unwind(by), ..PLAIN }
+}
+
+/// The references are tried otherwise.
+const fn trying(name: &'static str, tried: fn(&[u32], &[u32]) -> Vec<u32>) -> Faulty {
+    unwinding(name, Unwinding { tried, ..UNWINDING })
+}
+
+/// Rows are otherwise in use of a path.
+const fn using(name: &'static str, times: fn(&Left, u32, u32) -> u32) -> Faulty {
+    unwinding(name, Unwinding { times, ..UNWINDING })
+}
+
+/// By status and type rows are otherwise annulled.
+const fn standing(name: &'static str, status: fn(&[u32], Row) -> Option<Obstacle>) -> Faulty {
+    unwinding(name, Unwinding { status, ..UNWINDING })
+}
+
+/// Annulments carried out and answered otherwise, where there is something to try.
+const fn annulling(
+    name: &'static str,
+    annuls: fn(&mut [u32], &mut [u32], &[u32]) -> u32,
+) -> Faulty {
+    Faulty { name, fault: Fault::AnnulsInOrder(annuls), ..PLAIN }
+}
+
 /// No fault: the limits judged once more, on the ledger as it would be left and by
 /// the use worked out here, before a word over 100,000. It must agree with the
 /// model everywhere.
@@ -797,6 +913,10 @@ pub const OPENED_APART: Faulty =
 
 /// No fault: contests carried out apart, which must agree with the model everywhere.
 pub const CONTESTED_APART: Faulty = contesting("contests apart", CONTESTING);
+
+/// No fault: annulments in order worked out apart, which must agree with the model
+/// everywhere.
+pub const UNWOUND_APART: Faulty = unwinding("unwinds apart", UNWINDING);
 
 /// All planted faults; the first six are those the paper names.
 pub const FAULTS: &[Faulty] = &[
@@ -2604,6 +2724,617 @@ pub const FAULTS: &[Faulty] = &[
         if answer.number == TERM_RANGE {
             answer.number = BAD_TERMS;
         }
+    }),
+    // Annulments in order: what is tried.
+    trying("does not try the last reference", |_, references| {
+        filtered(references, |place, _| place + 1 < references.len())
+    }),
+    trying("does not try the first reference", |_, references| {
+        filtered(references, |place, _| place > 0)
+    }),
+    trying("tries the first reference alone", |_, references| {
+        filtered(references, |place, _| place == 0)
+    }),
+    trying("tries the last reference alone", |_, references| {
+        filtered(references, |place, _| place + 1 == references.len())
+    }),
+    trying("tries no more than four references", |_, references| {
+        filtered(references, |place, _| place < 4)
+    }),
+    trying("tries no more references than rows are used", |ledger, references| {
+        filtered(references, |place, _| place < ledger[USED] as usize)
+    }),
+    trying("tries the first two the other way round", |_, references| swapped(references, 0, 1)),
+    trying("tries the last two the other way round", |_, references| {
+        let last = references.len().wrapping_sub(1);
+        swapped(references, last, last.wrapping_sub(1))
+    }),
+    trying("tries the references from the last on", |_, references| {
+        references.iter().rev().copied().collect()
+    }),
+    trying("tries the rows as they stand in the ledger", |_, references| sorted(references)),
+    trying("tries later rows first", |_, references| {
+        sorted(references).into_iter().rev().collect()
+    }),
+    trying("annuls what came from a row along with it", |ledger, references| {
+        let mut tried = Vec::new();
+        for &reference in references {
+            let comes = |other: &u32| {
+                is_confirmed(ledger, Row::of(ledger, *other))
+                    && chain(ledger, *other)[1..].contains(&reference)
+                    && !references.contains(other)
+                    && !tried.contains(other)
+            };
+            let with_it: Vec<u32> = (1..=ledger[USED]).rev().filter(comes).collect();
+            tried.extend(with_it);
+            tried.push(reference);
+        }
+        tried
+    }),
+    trying("skips references that are not there", |ledger, references| {
+        filtered(references, |_, reference| row_named(ledger, reference).is_some())
+    }),
+    trying("skips reference 0", |_, references| filtered(references, |_, reference| reference > 0)),
+    trying("skips references past the rows used", |ledger, references| {
+        filtered(references, |_, reference| reference <= ledger[USED])
+    }),
+    trying("takes the last row for references past it", |ledger, references| {
+        references.iter().map(|&reference| reference.min(ledger[USED])).collect()
+    }),
+    trying("counts references from 0", |_, references| {
+        references.iter().map(|&reference| reference.wrapping_add(1)).collect()
+    }),
+    trying("reads 16 bits of a reference", |_, references| {
+        references.iter().map(|&reference| reference & 0xffff).collect()
+    }),
+    trying("takes a reference named again as done", |_, references| {
+        filtered(references, |place, reference| !references[..place].contains(&reference))
+    }),
+    trying("takes a reference named twice running as named once", |_, references| {
+        filtered(references, |place, one| place == 0 || references[place - 1] != one)
+    }),
+    unwinding("annuls a row again", Unwinding { named: |_, _| false, ..UNWINDING }),
+    unwinding(
+        "annuls a row again, but not twice running",
+        Unwinding { named: |before, reference| before.last() == Some(&reference), ..UNWINDING },
+    ),
+    // What the annulments before have left.
+    unwinding("tries each on the first ledger", Unwinding { gone: |_| &[], ..UNWINDING }),
+    unwinding(
+        "does not see the annulment just before",
+        Unwinding { gone: |before| &before[..before.len().saturating_sub(1)], ..UNWINDING },
+    ),
+    unwinding(
+        "sees the annulment just before alone",
+        Unwinding { gone: |before| &before[before.len().saturating_sub(1)..], ..UNWINDING },
+    ),
+    unwinding(
+        "sees the first three annulments alone",
+        Unwinding { gone: |before| &before[..before.len().min(3)], ..UNWINDING },
+    ),
+    unwinding(
+        "forgets what annulments give back",
+        Unwinding { gives_back: |_, _| false, ..UNWINDING },
+    ),
+    unwinding(
+        "gives back for open rows",
+        Unwinding {
+            gives_back: |ledger, row| (RESALE..=FULL_TRANSFER).contains(&row.get(ledger, TYPE)),
+            ..UNWINDING
+        },
+    ),
+    unwinding(
+        "gives no annulled redirect back",
+        Unwinding { gives_back: |ledger, row| gives_back_of(ledger, row, &[3, 6, 7]), ..UNWINDING },
+    ),
+    unwinding(
+        "gives annulled firm redirects alone back",
+        Unwinding { gives_back: |ledger, row| gives_back_of(ledger, row, &[4]), ..UNWINDING },
+    ),
+    unwinding(
+        "gives no annulled transfer back",
+        Unwinding { gives_back: |ledger, row| gives_back_of(ledger, row, &[3, 4, 5]), ..UNWINDING },
+    ),
+    unwinding("gives back what was requested", Unwinding { given: REQUESTED, ..UNWINDING }),
+    unwinding(
+        "gives back what was available at first",
+        Unwinding { given: AVAILABLE, ..UNWINDING },
+    ),
+    unwinding(
+        "gives back to the original",
+        Unwinding {
+            receiver: |ledger, row| {
+                *chain(ledger, reference_of(row)).last().expect("itself at least")
+            },
+            ..UNWINDING
+        },
+    ),
+    unwinding(
+        "gives back to the row above the related one",
+        Unwinding {
+            receiver: |ledger, row| {
+                let chain = chain(ledger, reference_of(row));
+                chain[chain.len().min(3) - 1]
+            },
+            ..UNWINDING
+        },
+    ),
+    // Which rows may go.
+    standing("unwinds relinquish records", |ledger, row| {
+        status(ledger, row).filter(|&obstacle| obstacle != Obstacle::RelinquishRecord)
+    }),
+    standing("unwinds open rows that are not preconfirmed", |ledger, row| {
+        status(ledger, row).filter(|&obstacle| obstacle != Obstacle::NotPreconfirmed)
+    }),
+    standing("unwinds rows at any status", |ledger, row| {
+        status(ledger, row).filter(|&obstacle| obstacle != Obstacle::Closed)
+    }),
+    standing("unwinds displaced rows", |ledger, row| match row.get(ledger, STATUS) {
+        DISPLACED => None,
+        _ => status(ledger, row),
+    }),
+    standing("unwinds no open rows", |ledger, row| match row.get(ledger, STATUS) {
+        CONFIRMED => status(ledger, row),
+        _ => Some(Obstacle::Closed),
+    }),
+    standing("unwinds open rows while they are QUEUED", |ledger, row| {
+        match row.get(ledger, STATUS) {
+            QUEUED | CONFIRMED => status(ledger, row),
+            _ => Some(Obstacle::Closed),
+        }
+    }),
+    standing("unwinds no relinquish record that is open", |ledger, row| {
+        match row.get(ledger, TYPE) {
+            RELINQUISH => Some(Obstacle::RelinquishRecord),
+            _ => status(ledger, row),
+        }
+    }),
+    standing("wants CONFIRMED rows to be preconfirmed", |ledger, row| {
+        match row.get(ledger, FLAGS) & PRECONFIRMED {
+            0 => Some(Obstacle::NotPreconfirmed),
+            _ => status(ledger, row),
+        }
+    }),
+    // Rows in use.
+    unwinding("unwinds rows in use", Unwinding { in_use: |_, _| false, ..UNWINDING }),
+    unwinding(
+        "compares what is in use in all hours together",
+        Unwinding {
+            in_use: |available, granted| {
+                available.iter().sum::<u32>() != granted.iter().sum::<u32>()
+            },
+            ..UNWINDING
+        },
+    ),
+    unwinding(
+        "unwinds rows that have more than granted",
+        Unwinding {
+            in_use: |available, granted| available.iter().zip(granted).any(|(a, g)| a < g),
+            ..UNWINDING
+        },
+    ),
+    unwinding(
+        "unwinds rows that have less than granted",
+        Unwinding {
+            in_use: |available, granted| available.iter().zip(granted).any(|(a, g)| a > g),
+            ..UNWINDING
+        },
+    ),
+    unwinding(
+        "does not compare what is in use in the last hour",
+        Unwinding {
+            in_use: |available, granted| {
+                let but_last = available.len() - 1;
+                available[..but_last] != granted[..but_last]
+            },
+            ..UNWINDING
+        },
+    ),
+    unwinding(
+        "asks for rows in use at first",
+        Unwinding {
+            available: |left, reference| {
+                left.ledger[Row::of(left.ledger, reference).profile(AVAILABLE)].to_vec()
+            },
+            ..UNWINDING
+        },
+    ),
+    // Use of paths.
+    unwinding("asks no path in order", Unwinding { paths: |_, _| Vec::new(), ..UNWINDING }),
+    unwinding(
+        "does not ask the related row's path in order",
+        Unwinding { paths: |ledger, row| vec![row.get(ledger, PATH)], ..UNWINDING },
+    ),
+    unwinding(
+        "does not ask the row's own path in order",
+        Unwinding { paths: |ledger, row| both_paths(ledger, row).split_off(1), ..UNWINDING },
+    ),
+    unwinding(
+        "asks the path of a related row while it is CONFIRMED",
+        Unwinding {
+            paths: |ledger, row| {
+                let mut paths = both_paths(ledger, row);
+                if !related(ledger, row).is_some_and(|related| is_confirmed(ledger, related)) {
+                    paths.truncate(1);
+                }
+                paths
+            },
+            ..UNWINDING
+        },
+    ),
+    unwinding(
+        "asks every path in order",
+        Unwinding { paths: |_, _| (1..=MAX_PATH).collect(), ..UNWINDING },
+    ),
+    unwinding(
+        "asks paths in the row's hours alone",
+        Unwinding {
+            over: |ledger, row, used, posted| {
+                let hours = row.get(ledger, START) as usize..row.get(ledger, STOP) as usize;
+                (UNWINDING.over)(ledger, row, &used[hours.clone()], &posted[hours])
+            },
+            ..UNWINDING
+        },
+    ),
+    unwinding(
+        "does not ask paths in the last hour",
+        Unwinding {
+            over: |ledger, row, used, posted| {
+                (UNWINDING.over)(ledger, row, &used[..used.len() - 1], posted)
+            },
+            ..UNWINDING
+        },
+    ),
+    unwinding(
+        "asks paths for all hours together",
+        Unwinding {
+            over: |_, _, used, posted| used.iter().sum::<u32>() > posted.iter().sum(),
+            ..UNWINDING
+        },
+    ),
+    unwinding(
+        "wants a megawatt more posted than is used",
+        Unwinding {
+            over: |_, _, used, posted| used.iter().zip(posted).any(|(mw, posted)| mw >= posted),
+            ..UNWINDING
+        },
+    ),
+    using("counts rows that went in use", |left, reference, path| {
+        in_use_of(left, reference, path, |one| left.was_confirmed(one))
+    }),
+    using("counts the row that goes in use", |left, reference, path| {
+        in_use_of(left, reference, path, |one| {
+            let goes = left.gone.last() == Some(&one);
+            left.was_confirmed(one) && (goes || !left.went(one))
+        })
+    }),
+    using("counts displaced rows in use", |left, reference, path| {
+        in_use_of(left, reference, path, |one| {
+            stands(left.ledger, Row::of(left.ledger, one)) && !left.went(one)
+        })
+    }),
+    using("counts rows whose related row went as gone", |left, reference, path| {
+        let orphaned = left.went(left.field(reference, RELATED));
+        if orphaned {
+            0
+        } else {
+            (UNWINDING.times)(left, reference, path)
+        }
+    }),
+    using("keeps no path free for a return", |left, reference, path| {
+        u32::from(left.carries(reference, path))
+    }),
+    using("keeps a path free though the row to return to went", |left, reference, path| {
+        let related = left.field(reference, RELATED);
+        let kept = left.field(reference, TYPE) == REDIRECT_NON_FIRM
+            && left.is_confirmed(reference)
+            && left.was_confirmed(related)
+            && left.field(related, PATH) == path;
+        u32::from(kept || left.carries(reference, path))
+    }),
+    using("keeps a path free for a return to any row", |left, reference, path| {
+        let related = left.field(reference, RELATED);
+        let kept = left.field(reference, TYPE) == REDIRECT_NON_FIRM
+            && left.is_confirmed(reference)
+            && left.field(related, PATH) == path;
+        u32::from(kept || left.carries(reference, path))
+    }),
+    using("keeps a path free for firm redirects", |left, reference, path| {
+        let related = left.field(reference, RELATED);
+        let kept = left.field(reference, TYPE) == REDIRECT_FIRM
+            && left.is_confirmed(reference)
+            && left.carries(related, path);
+        u32::from(kept).max((UNWINDING.times)(left, reference, path))
+    }),
+    using("keeps a path free for a return twice over", |left, reference, path| {
+        let carried = left.carries(reference, path);
+        match left.keeps_free(reference, path) {
+            true if !carried => 2,
+            kept => u32::from(kept || carried),
+        }
+    }),
+    using("counts a redirect within its path twice", |left, reference, path| {
+        u32::from(left.carries(reference, path)) + u32::from(left.keeps_free(reference, path))
+    }),
+    annulling("asks paths once, at the end", |ledger, postings, references| {
+        let unlimited = Unwinding { paths: |_, _| Vec::new(), ..UNWINDING };
+        if unwinds(&unlimited, ledger, postings, references) == 0 {
+            return 0;
+        }
+        let left = Left::new(&UNWINDING, ledger, references);
+        let hours = ledger[HOURS] as usize;
+        let is_over = |reference: &u32| {
+            let row = Row::of(ledger, *reference);
+            let asked = is_confirmed(ledger, row).then(|| both_paths(ledger, row));
+            asked.into_iter().flatten().any(|path| {
+                (UNWINDING.over)(ledger, row, &left.use_of(path), &postings[posted(path, hours)])
+            })
+        };
+        u32::from(!references.iter().any(is_over))
+    }),
+    annulling("holds open rows to the posting", |ledger, postings, references| {
+        let over = |reference: &u32| {
+            let row = row_named(ledger, *reference);
+            row.is_some_and(|row| {
+                is_open(row.get(ledger, STATUS)) && either_over(ledger, postings, row, counted)
+            })
+        };
+        let any_over = references.iter().any(over);
+        u32::from(!any_over && annuls_in_order(ledger, postings, references))
+    }),
+    annulling("asks whether open rows are in use", |ledger, postings, references| {
+        let in_use = |reference: &u32| {
+            let row = row_named(ledger, *reference);
+            row.is_some_and(|row| {
+                is_open(row.get(ledger, STATUS))
+                    && ledger[row.profile(AVAILABLE)] != ledger[row.profile(GRANTED)]
+            })
+        };
+        let any_in_use = references.iter().any(in_use);
+        u32::from(!any_in_use && annuls_in_order(ledger, postings, references))
+    }),
+    // Words over 100,000.
+    unwinding(
+        "does not judge a word over 100,000 in order",
+        Unwinding { passes: |_| false, ..UNWINDING },
+    ),
+    unwinding(
+        "gives back to the available of rows that do not stand",
+        Unwinding { takes_in: AVAILABLE, ..UNWINDING },
+    ),
+    unwinding(
+        "judges a displaced word of 100,000 in order",
+        Unwinding { passes: |mw| mw >= MAX_MW, ..UNWINDING },
+    ),
+    unwinding(
+        "judges what each annulment alone adds to displaced",
+        Unwinding { since: |left, _| left.gone.len() - 1, ..UNWINDING },
+    ),
+    unwinding(
+        "takes what came back before a row went as displaced",
+        Unwinding { since: |_, _| 0, ..UNWINDING },
+    ),
+    unwinding(
+        "loses what comes back once a row went",
+        Unwinding {
+            since: |left, reference| match left.went(reference) {
+                true => left.gone.len(),
+                false => 0,
+            },
+            ..UNWINDING
+        },
+    ),
+    // The words handed over.
+    unwinding(
+        "says no where nothing is named",
+        Unwinding {
+            grounds: |ledger, postings, references| match references {
+                [] => Some(Obstacle::NoReference),
+                _ => (UNWINDING.grounds)(ledger, postings, references),
+            },
+            ..UNWINDING
+        },
+    ),
+    unwinding(
+        "looks at the ledger where nothing is named",
+        Unwinding {
+            grounds: |ledger, postings, references| match references {
+                [] => (!sound(ledger)).then_some(Obstacle::UnsoundLedger),
+                _ => (UNWINDING.grounds)(ledger, postings, references),
+            },
+            ..UNWINDING
+        },
+    ),
+    unwinding(
+        "looks at the postings where nothing is named",
+        Unwinding {
+            grounds: |ledger, postings, references| match references {
+                [] => (sound(ledger) && !postings_fit(postings, ledger[HOURS]))
+                    .then_some(Obstacle::WrongPostings),
+                _ => (UNWINDING.grounds)(ledger, postings, references),
+            },
+            ..UNWINDING
+        },
+    ),
+    unwinding(
+        "does not look at the postings of annulments",
+        Unwinding {
+            grounds: |ledger, postings, references| {
+                (UNWINDING.grounds)(ledger, postings, references)
+                    .filter(|&obstacle| obstacle != Obstacle::WrongPostings)
+            },
+            ..UNWINDING
+        },
+    ),
+    unwinding(
+        "looks at the length of the postings alone",
+        Unwinding {
+            grounds: |ledger, postings, references| {
+                (UNWINDING.grounds)(ledger, postings, references).filter(|&obstacle| {
+                    obstacle != Obstacle::WrongPostings
+                        || postings.len() != posting_words(ledger[HOURS])
+                })
+            },
+            ..UNWINDING
+        },
+    ),
+    unwinding(
+        "looks at the words of the postings alone",
+        Unwinding {
+            grounds: |ledger, postings, references| {
+                (UNWINDING.grounds)(ledger, postings, references).filter(|&obstacle| {
+                    obstacle != Obstacle::WrongPostings || postings.iter().any(|&mw| mw > MAX_MW)
+                })
+            },
+            ..UNWINDING
+        },
+    ),
+    unwinding(
+        "does not look at the head's last word",
+        Unwinding {
+            grounds: |ledger, postings, references| {
+                let mut mended = ledger.to_vec();
+                if let Some(word) = mended.get_mut(HEAD_ZERO) {
+                    *word = 0;
+                }
+                (UNWINDING.grounds)(&mended, postings, references)
+            },
+            ..UNWINDING
+        },
+    ),
+    unwinding(
+        "does not look at requested words of annulments",
+        Unwinding {
+            grounds: |ledger, postings, references| {
+                let mut mended = ledger.to_vec();
+                if ledger.len() >= HEAD_WORDS {
+                    bring_down(&mut mended, REQUESTED);
+                }
+                (UNWINDING.grounds)(&mended, postings, references)
+            },
+            ..UNWINDING
+        },
+    ),
+    // Who annuls, what is written and what is answered.
+    annulling("annuls by the provider", |ledger, postings, references| {
+        let by = |ledger: &[u32], _| ledger[PROVIDER];
+        all_accepted(&annulled_by(ledger, postings, references, by).1)
+    }),
+    annulling("annuls by the customer", |ledger, postings, references| {
+        let by = |ledger: &[u32], row: Row| row.get(ledger, CUSTOMER);
+        all_accepted(&annulled_by(ledger, postings, references, by).1)
+    }),
+    annulling("annuls by the seller of the first row", |ledger, postings, references| {
+        let first = row_named(ledger, references[0]).map_or(0, |row| row.get(ledger, SELLER));
+        all_accepted(&annulled_by(ledger, postings, references, |_, _| first).1)
+    }),
+    annulling("unwinds rows of one seller alone", |ledger, postings, references| {
+        let mut sellers: Vec<_> = references
+            .iter()
+            .map(|&reference| row_named(ledger, reference).map(|row| row.get(ledger, SELLER)))
+            .collect();
+        sellers.dedup();
+        u32::from(sellers.len() == 1 && annuls_in_order(ledger, postings, references))
+    }),
+    annulling("passes over what is refused", |ledger, postings, references| {
+        let (_, answers) = annulled(ledger, postings, references);
+        all_accepted(&answers[answers.len() - 1..])
+    }),
+    annulling("says yes where one is accepted", |ledger, postings, references| {
+        let (_, answers) = annulled(ledger, postings, references);
+        u32::from(answers.iter().any(|answer| answer.number == 0))
+    }),
+    annulling("passes over a 22", |ledger, postings, references| {
+        let (_, answers) = annulled(ledger, postings, references);
+        u32::from(answers.iter().all(|answer| matches!(answer.number, 0 | OVER_POSTING)))
+    }),
+    annulling("says yes to every order", |_, _, _| 1),
+    annulling("says no to every order", |_, _, _| 0),
+    annulling(
+        "says no where a row goes after the one it came from",
+        |ledger, postings, references| {
+            let late = |place: usize| {
+                let row = row_named(ledger, references[place]);
+                row.is_some_and(|row| references[..place].contains(&row.get(ledger, RELATED)))
+            };
+            let any_late = (0..references.len()).any(late);
+            u32::from(!any_late && annuls_in_order(ledger, postings, references))
+        },
+    ),
+    annulling("asks only that rows go after what came from them", |ledger, _, references| {
+        let taken: Vec<_> =
+            used_rows(ledger).into_iter().map(|row| (reference_of(row), row)).collect();
+        let waits = |place: usize| {
+            taken.iter().any(|&(other, row)| {
+                row.get(ledger, RELATED) == references[place]
+                    && is_confirmed(ledger, row)
+                    && !references[..place].contains(&other)
+            })
+        };
+        let fits = |place: usize| {
+            let named = row_named(ledger, references[place]);
+            named.is_some_and(|row| status(ledger, row).is_none())
+                && !references[..place].contains(&references[place])
+                && !waits(place)
+        };
+        u32::from((0..references.len()).all(fits))
+    }),
+    annulling("displaces rows instead of annulling them", |ledger, postings, references| {
+        let (mut ledger, mut postings) = (ledger.to_vec(), postings.to_vec());
+        let goes = |reference: &u32| {
+            let Some(action) = annulment(&ledger, *reference) else { return false };
+            let confirmed = is_confirmed(&ledger, Row::of(&ledger, *reference));
+            let status = if confirmed { DISPLACED } else { ANNULLED };
+            let action = Action { status, ..action };
+            act(&mut ledger, &mut postings, &[], &action).number == 0
+        };
+        u32::from(references.iter().all(goes))
+    }),
+    annulling("carries the annulments out", |ledger, postings, references| {
+        let answer = Model.annuls_in_order(ledger, postings, references);
+        if answer == 1 {
+            let (left, _) = annulled(ledger, postings, references);
+            ledger.copy_from_slice(&left);
+        }
+        answer
+    }),
+    annulling("leaves the rows annulled before a refusal", |ledger, postings, references| {
+        let (_, answers) = annulled(ledger, postings, references);
+        let accepted = answers.iter().take_while(|answer| answer.number == 0).count();
+        if accepted < answers.len() {
+            let (left, _) = annulled(ledger, postings, &references[..accepted]);
+            ledger.copy_from_slice(&left);
+        }
+        all_accepted(&answers)
+    }),
+    annulling("puts back all but what is displaced", |ledger, postings, references| {
+        let (left, answers) = annulled(ledger, postings, references);
+        for row in used_rows(&left) {
+            let displaced = row.profile(DISPLACED_MW);
+            ledger[displaced.clone()].copy_from_slice(&left[displaced]);
+        }
+        all_accepted(&answers)
+    }),
+    annulling("writes a posting where the order is accepted", |ledger, postings, references| {
+        let answer = Model.annuls_in_order(ledger, postings, references);
+        if answer == 1 {
+            postings[0] = if postings[0] == MAX_MW { 0 } else { MAX_MW };
+        }
+        answer
+    }),
+    annulling("answers how many are accepted", |ledger, postings, references| {
+        let (_, answers) = annulled(ledger, postings, references);
+        answers.iter().filter(|answer| answer.number == 0).count() as u32
+    }),
+    annulling("answers the number of the refusal", |ledger, postings, references| {
+        let (_, answers) = annulled(ledger, postings, references);
+        let refused = answers.iter().find(|answer| answer.number != 0);
+        refused.map_or(0, |answer| answer.number)
+    }),
+    annulling("answers a refusal's number for no", |ledger, postings, references| {
+        let (_, answers) = annulled(ledger, postings, references);
+        let refused = answers.iter().find(|answer| answer.number != 0);
+        refused.map_or(1, |answer| answer.number)
     }),
     // The batch and the other calls.
     calling(

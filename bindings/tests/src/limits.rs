@@ -3,6 +3,13 @@
 
 use luddrisa_model::*;
 
+/// The path of a row and that of its related row, which may be the same.
+pub fn both_paths(ledger: &[u32], row: Row) -> Vec<u32> {
+    let related = row.get(ledger, RELATED);
+    let above = (related != 0).then(|| Row::of(ledger, related).get(ledger, PATH));
+    [row.get(ledger, PATH)].into_iter().chain(above).collect()
+}
+
 /// Use of every path in every hour, in the order of the postings.
 pub fn uses(ledger: &[u32]) -> Vec<u64> {
     let hours = ledger[HOURS] as usize;

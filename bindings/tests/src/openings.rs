@@ -455,13 +455,12 @@ fn posted_in_full(words: &mut Words, path: u32, hours: u32, mw: u32) -> Action {
     with_profile(words, action, &vec![mw; hours as usize])
 }
 
-/// The ledger that document 01's day at the desk leaves, opened after each action.
-pub fn day(run: &mut Run) -> Result<Vec<u32>, Difference> {
-    let words = &mut Words::new();
+/// Document 01's day at the desk, with the two postings beforehand.
+fn day_list(words: &mut Words) -> [Action; 16] {
     let none = Action::default();
     let by_holder = Action { actor: 10, seller: 1, path: 1, ..none };
     let resale = Action { reqtype: RESALE, seller: 10, related: 1, flags: 1, path: 1, ..none };
-    let list = [
+    [
         posted_in_full(words, 1, 4, 100),
         posted_in_full(words, 2, 4, 100),
         submitted(words, Action { reqtype: 1, price: 500, ..by_holder }, [0, 4], &[100; 4]),
@@ -495,15 +494,27 @@ pub fn day(run: &mut Run) -> Result<Vec<u32>, Difference> {
         seller(1, 5, ACCEPTED, 0),
         seller(10, 2, ANNULLED, 0),
         seller(1, 3, ANNULLED, 0),
-    ];
+    ]
+}
+
+/// What the day leaves after so many of its actions, opened after each.
+pub(crate) fn day_after(run: &mut Run, actions: usize) -> Result<Desk, Difference> {
+    let words = &mut Words::new();
+    let list = day_list(words);
     let mut desk = run.fresh([8, 4, 1, 3_600, 0])?;
     let mut numbers = Vec::new();
-    for action in &list {
+    for action in &list[..2 + actions] {
         numbers.push(run.act(&mut desk, words, action)?.number);
         run.opens(&desk.ledger)?;
     }
-    assert_eq!(numbers, [0, 0, 0, 0, 0, 0, 0, 0, 0, 0, 14, 0, 0, 0, 0, 15]);
-    Ok(desk.ledger().to_vec())
+    let all = [0, 0, 0, 0, 0, 0, 0, 0, 0, 0, 14, 0, 0, 0, 0, 15];
+    assert_eq!(numbers, all[..2 + actions]);
+    Ok(desk)
+}
+
+/// The ledger that the whole day leaves.
+pub fn day(run: &mut Run) -> Result<Vec<u32>, Difference> {
+    Ok(day_after(run, 14)?.ledger().to_vec())
 }
 
 /// How many ledgers opened with 0, 1 and 20.
@@ -627,9 +638,8 @@ pub fn of_many_rows(run: &mut Run) -> Result<(), Difference> {
     Ok(())
 }
 
-/// The greatest ledger, full: resales of the first row over all hours, then its very
-/// last reduced word changed, and its last granted word.
-pub fn greatest(run: &mut Run) -> Result<(), Difference> {
+/// The greatest ledger, full: resales of the first row over all hours.
+pub(crate) fn greatest_ledger() -> Vec<u32> {
     let mut ledger = vec![0; ledger_words(MAX_ROWS, MAX_HOURS)];
     assert_eq!(create(&mut ledger, MAX_ROWS, MAX_HOURS, 1, 3_600, 0), 0);
     ledger[USED] = MAX_ROWS;
@@ -644,6 +654,12 @@ pub fn greatest(run: &mut Run) -> Result<(), Difference> {
         ledger[row.profile(GRANTED)].fill(granted);
         ledger[row.profile(AVAILABLE)].fill(available);
     }
+    ledger
+}
+
+/// The greatest ledger with its very last reduced word changed, and its last granted word.
+pub fn greatest(run: &mut Run) -> Result<(), Difference> {
+    let mut ledger = greatest_ledger();
     assert_eq!(run.open_words(&ledger)?, 0, "the greatest ledger opens");
     let last = Row::of(&ledger, MAX_ROWS);
     for profile in [REDUCED_MW, GRANTED] {

@@ -6,6 +6,7 @@ use luddrisa_model::*;
 
 use crate::openings::Damage;
 use crate::plays::{row_named, Ending, Play};
+use crate::unwound::{alone, Left, Obstacle, Step, UNWINDING};
 
 /// Stands for every kind that is not 1 to 8.
 pub const NO_KIND: u32 = 0;
@@ -37,7 +38,8 @@ pub enum Of {
     WordOverBound,
 }
 
-/// The numbers of the other calls.
+/// The numbers of the other calls; those of annulments in order are no and yes.
+pub const ANNULS_IN_ORDER: [u32; 2] = [0, 1];
 pub const CHARGE: [u32; 4] = [0, 1, 4, 11];
 pub const CONTEST: [u32; 6] = [0, 1, 3, 4, 11, 25];
 pub const CREATE: [u32; 2] = [0, 1];
@@ -149,6 +151,93 @@ pub enum Found {
 
 pub const FOUND: [Found; 3] = [Found::ByEquation, Found::ByTree, Found::ByBoth];
 
+/// Where what an annulment gives back goes.
+#[derive(Clone, Copy, Debug, PartialEq, Eq, PartialOrd, Ord)]
+pub enum Receiver {
+    /// The related row is CONFIRMED still.
+    Confirmed,
+    /// It was CONFIRMED, and went before in the same list.
+    Gone,
+    Displaced,
+    /// It is at any other status.
+    Neither,
+}
+
+/// What a list of references to annul met.
+#[derive(Clone, Copy, Debug, PartialEq, Eq, PartialOrd, Ord)]
+pub enum InOrder {
+    /// Nothing is named, on a ledger and its postings, and on words that are none.
+    Nothing,
+    NothingOfNoLedger,
+    /// So many are accepted, to the last; `MANY` stands for more.
+    Accepted(usize),
+    /// More are named than rows are used.
+    LongerThanRows,
+    /// All are accepted, and among them is a chain of `MANY` CONFIRMED rows.
+    Deep,
+    /// The same with so many CONFIRMED rows of one.
+    Wide,
+    /// An open row goes.
+    Open,
+    /// A row goes for whose non-firm redirect its path was kept free.
+    ReturnGivenUp,
+    /// Where what comes back goes.
+    BackTo(Receiver),
+    /// Accepted at a later step, though by itself it is stopped so.
+    Freed(Obstacle),
+    /// Stopped so at a later step, though by itself it is accepted.
+    Blocked(Obstacle),
+    /// Stopped so, though in another order all are accepted.
+    InAnotherOrder(Obstacle),
+}
+
+/// References that are many.
+pub const MANY: usize = 6;
+
+/// All that a list can meet. What comes back to a row's displaced stays there, so that
+/// nobody is freed from the last 1, and in any order it is the same.
+pub const IN_ORDER: [InOrder; 24] = [
+    InOrder::Nothing,
+    InOrder::NothingOfNoLedger,
+    InOrder::Accepted(1),
+    InOrder::Accepted(2),
+    InOrder::Accepted(3),
+    InOrder::Accepted(4),
+    InOrder::Accepted(5),
+    InOrder::Accepted(MANY),
+    InOrder::LongerThanRows,
+    InOrder::Deep,
+    InOrder::Wide,
+    InOrder::Open,
+    InOrder::ReturnGivenUp,
+    InOrder::BackTo(Receiver::Confirmed),
+    InOrder::BackTo(Receiver::Gone),
+    InOrder::BackTo(Receiver::Displaced),
+    InOrder::BackTo(Receiver::Neither),
+    InOrder::Freed(Obstacle::InUse),
+    InOrder::Freed(Obstacle::OverPosting),
+    InOrder::Blocked(Obstacle::InUse),
+    InOrder::Blocked(Obstacle::OverPosting),
+    InOrder::Blocked(Obstacle::OverBound),
+    InOrder::InAnotherOrder(Obstacle::InUse),
+    InOrder::InAnotherOrder(Obstacle::OverPosting),
+];
+
+/// All orders of some references.
+pub fn all_orders(references: &[u32]) -> Vec<Vec<u32>> {
+    let mut orders = vec![Vec::new()];
+    for &reference in references {
+        let with_it = |order: Vec<u32>| {
+            (0..=order.len()).map(move |place| {
+                let (front, back) = order.split_at(place);
+                [front, &[reference], back].concat()
+            })
+        };
+        orders = orders.into_iter().flat_map(with_it).collect();
+    }
+    orders
+}
+
 /// What a run reached.
 #[derive(Clone, Debug, Default)]
 pub struct Reached {
@@ -170,6 +259,11 @@ pub struct Reached {
     damaged: BTreeMap<(Damage, u32), u64>,
     /// What contests came to, and type of the row, 0 where none is found; how often.
     contested: BTreeMap<(Ending, u32), u64>,
+    /// What lists of references to annul were stopped by, where, and type of the row, 0
+    /// where none is found; how often.
+    stopped: BTreeMap<(Obstacle, Step, u32), u64>,
+    /// What such lists met; how often.
+    in_order: BTreeMap<InOrder, u64>,
 }
 
 impl Reached {
@@ -314,6 +408,138 @@ impl Reached {
         *self.contested.entry((ending, reqtype)).or_default() += 1;
     }
 
+    /// Notes what stopped a list of references to annul, or that nothing did.
+    pub fn note_order(
+        &mut self,
+        ledger: &[u32],
+        postings: &[u32],
+        references: &[u32],
+        stopped: Option<(usize, Obstacle)>,
+    ) {
+        self.note_call("annuls in order", u32::from(stopped.is_none()));
+        let grounds = sound(ledger) && postings_fit(postings, ledger[HOURS]);
+        if references.is_empty() {
+            let of_none = InOrder::NothingOfNoLedger;
+            self.note_in_order(if grounds { InOrder::Nothing } else { of_none });
+        }
+        if let Some((place, obstacle)) = stopped {
+            let row = match obstacle.types() {
+                [] => None,
+                _ => row_named(ledger, references[place]),
+            };
+            let reqtype = row.map_or(0, |row| row.get(ledger, TYPE));
+            *self.stopped.entry((obstacle, Step::at(place), reqtype)).or_default() += 1;
+        }
+        // Long lists are for the answer alone.
+        if grounds && references.len() <= 64 {
+            self.note_steps(ledger, postings, references, stopped);
+        }
+    }
+
+    fn note_steps(
+        &mut self,
+        ledger: &[u32],
+        postings: &[u32],
+        references: &[u32],
+        stopped: Option<(usize, Obstacle)>,
+    ) {
+        let accepted = &references[..stopped.map_or(references.len(), |(place, _)| place)];
+        for (place, &reference) in accepted.iter().enumerate() {
+            let left = Left::new(&UNWINDING, ledger, &references[..place]);
+            self.note_step(&left, reference);
+            if let Some(obstacle) = alone(ledger, postings, reference) {
+                self.note_in_order(InOrder::Freed(obstacle));
+            }
+        }
+        if references.len() > ledger[USED] as usize {
+            self.note_in_order(InOrder::LongerThanRows);
+        }
+        match stopped {
+            None if accepted.is_empty() => (),
+            None => {
+                self.note_in_order(InOrder::Accepted(accepted.len().min(MANY)));
+                self.note_shape(ledger, accepted);
+            }
+            Some((place, obstacle)) => {
+                let by_itself = alone(ledger, postings, references[place]);
+                if place > 0 && by_itself.is_none() && obstacle != Obstacle::Twice {
+                    self.note_in_order(InOrder::Blocked(obstacle));
+                }
+                // Other obstacles are there in any order, and more orders take long.
+                let may_be = obstacle >= Obstacle::InUse && references.len() <= 4;
+                let is_accepted = |order: &Vec<u32>| annuls_in_order(ledger, postings, order);
+                if may_be && all_orders(references).iter().any(is_accepted) {
+                    self.note_in_order(InOrder::InAnotherOrder(obstacle));
+                }
+            }
+        }
+    }
+
+    /// A step that is accepted.
+    fn note_step(&mut self, left: &Left, reference: u32) {
+        let (path, related) = (left.field(reference, PATH), left.field(reference, RELATED));
+        if !left.was_confirmed(reference) {
+            return self.note_in_order(InOrder::Open);
+        }
+        let returns = |other: u32| {
+            left.field(other, RELATED) == reference
+                && left.field(other, PATH) != path
+                && left.keeps_free(other, path)
+        };
+        if (1..=left.ledger[USED]).any(returns) {
+            self.note_in_order(InOrder::ReturnGivenUp);
+        }
+        if related != 0 {
+            self.note_in_order(InOrder::BackTo(match left.field(related, STATUS) {
+                CONFIRMED if left.is_confirmed(related) => Receiver::Confirmed,
+                CONFIRMED => Receiver::Gone,
+                DISPLACED => Receiver::Displaced,
+                _ => Receiver::Neither,
+            }));
+        }
+    }
+
+    /// How the CONFIRMED rows among the references are related.
+    fn note_shape(&mut self, ledger: &[u32], references: &[u32]) {
+        let left = Left::new(&UNWINDING, ledger, &[]);
+        let is_one =
+            |reference: &u32| references.contains(reference) && left.is_confirmed(*reference);
+        let related = |reference: u32| Some(left.field(reference, RELATED)).filter(is_one);
+        let depth = |reference: u32| {
+            std::iter::successors(Some(reference).filter(is_one), |&one| related(one)).count()
+        };
+        let breadth = |of: u32| {
+            references.iter().filter(|&&one| is_one(&one) && related(one) == Some(of)).count()
+        };
+        if references.iter().any(|&reference| depth(reference) >= MANY) {
+            self.note_in_order(InOrder::Deep);
+        }
+        if references.iter().any(|&reference| breadth(reference) >= MANY) {
+            self.note_in_order(InOrder::Wide);
+        }
+    }
+
+    fn note_in_order(&mut self, met: InOrder) {
+        *self.in_order.entry(met).or_default() += 1;
+    }
+
+    /// How often lists of references met a thing.
+    pub fn times_in_order(&self, met: InOrder) -> u64 {
+        self.in_order.get(&met).copied().unwrap_or(0)
+    }
+
+    /// How often lists were stopped so at a step, for rows of any type.
+    pub fn times_stopped(&self, obstacle: Obstacle, step: Step) -> u64 {
+        let so = |&(what, at, _): &(Obstacle, Step, u32)| (what, at) == (obstacle, step);
+        self.stopped.iter().filter(|(what, _)| so(what)).map(|(_, times)| times).sum()
+    }
+
+    /// The types of row at which lists were stopped so.
+    pub fn types_stopped(&self, obstacle: Obstacle) -> BTreeSet<u32> {
+        let so = |&&(what, _, _): &&(Obstacle, Step, u32)| what == obstacle;
+        self.stopped.keys().filter(so).map(|&(_, _, reqtype)| reqtype).collect()
+    }
+
     /// How often contests came to an ending, for rows of any type.
     pub fn times_contested(&self, ending: Ending) -> u64 {
         self.contested.iter().filter(|((what, _), _)| *what == ending).map(|(_, times)| times).sum()
@@ -363,6 +589,17 @@ impl Reached {
         for ending in Ending::ALL {
             lines.push_str(&format!(" {ending:?} × {};", self.times_contested(ending)));
         }
+        lines.push_str("\nannulments stopped:");
+        for obstacle in Obstacle::ALL {
+            for &step in obstacle.steps() {
+                let times = self.times_stopped(obstacle, step);
+                lines.push_str(&format!(" {obstacle:?} {step:?} × {times};"));
+            }
+        }
+        lines.push_str("\nannulments in order:");
+        for met in IN_ORDER {
+            lines.push_str(&format!(" {met:?} × {};", self.times_in_order(met)));
+        }
         lines.push('\n');
         lines
     }
@@ -391,6 +628,10 @@ impl Reached {
         same("opening (damage, number)", &listed_damaged(), &damaged)?;
         let contested = self.contested.keys().copied().collect();
         same("contest (ending, type)", &listed_contested(), &contested)?;
+        let stopped = self.stopped.keys().copied().collect();
+        same("annulments (stopped by, step, type)", &listed_stopped(), &stopped)?;
+        let in_order = self.in_order.keys().copied().collect();
+        same("annulments in order", &IN_ORDER.into(), &in_order)?;
         same("call (name, number)", &listed_calls(), &self.calls)
     }
 }
@@ -498,8 +739,21 @@ pub fn listed_contested() -> BTreeSet<(Ending, u32)> {
     listed
 }
 
+/// Each obstacle with the steps and the types of row that can meet it.
+pub fn listed_stopped() -> BTreeSet<(Obstacle, Step, u32)> {
+    let mut listed = BTreeSet::new();
+    for obstacle in Obstacle::ALL {
+        let types = if obstacle.types().is_empty() { &[0] } else { obstacle.types() };
+        for &step in obstacle.steps() {
+            listed.extend(types.iter().map(|&reqtype| (obstacle, step, reqtype)));
+        }
+    }
+    listed
+}
+
 fn listed_calls() -> BTreeSet<(&'static str, u32)> {
-    let calls: [(&str, &[u32]); 7] = [
+    let calls: [(&str, &[u32]); 8] = [
+        ("annuls in order", &ANNULS_IN_ORDER),
         ("charge", &CHARGE),
         ("contest", &CONTEST),
         ("create", &CREATE),
@@ -529,6 +783,9 @@ mod tests {
         assert_eq!(listed_reduced().len(), 8 * 7 + 8 + 2 * 6);
         // Of the endings 4 find no row, 2 meet all types, 1 a record; 5 types may not be firm.
         assert_eq!(listed_contested().len(), 4 + 2 * 8 + 1 + 5 + 13 * 5);
+        // Of the obstacles 2 come before any step, 1 finds no row, 1 is never first; 2 meet
+        // all types, 1 a record, 2 all but records, 1 those that come from another row.
+        assert_eq!(listed_stopped().len(), 2 + 2 + 8 + 2 * (2 * 8 + 1 + 2 * 7 + 5));
     }
 
     #[test]
@@ -548,7 +805,25 @@ mod tests {
         reached.damaged = listed_damaged().into_iter().map(|damaged| (damaged, 1)).collect();
         let all_ended = || listed_contested().into_iter().map(|ended| (ended, 1)).collect();
         reached.contested = all_ended();
+        let all_stopped = || listed_stopped().into_iter().map(|stopped| (stopped, 1)).collect();
+        reached.stopped = all_stopped();
+        let all_in_order = || IN_ORDER.into_iter().map(|met| (met, 1)).collect();
+        reached.in_order = all_in_order();
         assert_eq!(reached.check(), Ok(()));
+        reached.stopped.remove(&(Obstacle::OverBound, Step::Later, FULL_TRANSFER));
+        assert!(reached.check().unwrap_err().contains("never reached [(OverBound, Later, 7)]"));
+        reached.stopped = all_stopped();
+        reached.stopped.insert((Obstacle::Twice, Step::First, RESALE), 1);
+        assert!(reached.check().unwrap_err().contains("not in the paper [(Twice, First, 3)]"));
+        reached.stopped = all_stopped();
+        for met in IN_ORDER {
+            reached.in_order.remove(&met);
+            assert!(reached.check().unwrap_err().contains(&format!("never reached [{met:?}]")));
+            reached.in_order = all_in_order();
+        }
+        reached.in_order.insert(InOrder::Freed(Obstacle::OverBound), 1);
+        assert!(reached.check().unwrap_err().contains("not in the paper [Freed(OverBound)]"));
+        reached.in_order = all_in_order();
         reached.contested.remove(&(Ending::NoAnswer, FULL_TRANSFER));
         assert!(reached.check().unwrap_err().contains("never reached [(NoAnswer, 7)]"));
         reached.contested = all_ended();

@@ -1,4 +1,4 @@
-//! What is tested: the eight calls, by whomever they are carried out.
+//! What is tested: the nine calls, by whomever they are carried out.
 
 #[cfg(feature = "archive")]
 use crate::converted::{action_to_library, answer_to_library, answer_to_model, contest_to_library};
@@ -27,6 +27,9 @@ pub trait Rules {
         moves: &[u32],
         replies: &[u32],
     ) -> Answer;
+    /// Ledger and postings are lent to be written, though neither may be: one that does is
+    /// seen.
+    fn annuls_in_order(&self, ledger: &mut [u32], postings: &mut [u32], references: &[u32]) -> u32;
     fn charge(&self, ledger: &[u32], reference: u32) -> (u32, u64);
     fn profile_in_force(&self, ledger: &[u32], reference: u32, out: &mut [u32]) -> usize;
     fn read_stamp(&self, bytes: &[u8]) -> (u32, u32);
@@ -65,6 +68,10 @@ impl Rules for Model {
         replies: &[u32],
     ) -> Answer {
         model::contest(ledger, postings, contest, moves, replies)
+    }
+
+    fn annuls_in_order(&self, ledger: &mut [u32], postings: &mut [u32], references: &[u32]) -> u32 {
+        u32::from(model::annuls_in_order(ledger, postings, references))
     }
 
     fn charge(&self, ledger: &[u32], reference: u32) -> (u32, u64) {
@@ -135,6 +142,10 @@ impl Rules for Library {
     ) -> Answer {
         let contest = contest_to_library(contest);
         answer_to_model(&luddrisa::calls::contest(ledger, postings, &contest, moves, replies))
+    }
+
+    fn annuls_in_order(&self, ledger: &mut [u32], postings: &mut [u32], references: &[u32]) -> u32 {
+        luddrisa::calls::annuls_in_order(ledger, postings, references)
     }
 
     fn charge(&self, ledger: &[u32], reference: u32) -> (u32, u64) {

@@ -5,6 +5,7 @@ use luddrisa_model::{ledger_words, posting_words, postings_fit, sound, HOURS, US
 use crate::plays::{judged, Play, CONTESTING};
 use crate::reached::Reached;
 use crate::rules::{Action, Answer, Model, Rules};
+use crate::unwound::{stopped, UNWINDING};
 
 /// A difference between the subject and the model, told in words.
 pub type Difference = String;
@@ -124,11 +125,13 @@ pub struct Run<'a> {
     pub actions: u64,
     /// Contests answered, each by both.
     pub contests: u64,
+    /// Lists of references to annul, each answered by both.
+    pub orders: u64,
 }
 
 impl<'a> Run<'a> {
     pub fn new(subject: &'a dyn Rules) -> Run<'a> {
-        Run { subject, reached: Reached::default(), actions: 0, contests: 0 }
+        Run { subject, reached: Reached::default(), actions: 0, contests: 0, orders: 0 }
     }
 
     pub fn subject(&self) -> &'a dyn Rules {
@@ -272,6 +275,36 @@ impl<'a> Run<'a> {
         }
         self.reached.note_contest(desk.ledger(), play, ending);
         Ok(ours)
+    }
+
+    /// Annulments in order, which leave every word as it is. What they come to is worked
+    /// out a second time.
+    pub fn annuls_in_order(
+        &mut self,
+        desk: &mut Desk,
+        references: &[u32],
+    ) -> Result<bool, Difference> {
+        let stopped = stopped(&UNWINDING, desk.ledger(), desk.postings(), references);
+        let list = Twice::new(references);
+        let Desk { ledger, postings } = &mut *desk;
+        let ours = Model.annuls_in_order(&mut ledger.model, &mut postings.model, references);
+        let theirs = self.subject.annuls_in_order(
+            ledger.subject_mut(),
+            postings.subject_mut(),
+            list.subject(),
+        );
+        self.orders += 1;
+        let what = || format!("annulling {references:?}");
+        if ours != theirs {
+            return Err(format!("{}: {theirs}, by the model {ours}", what()));
+        }
+        if (ours == 1) != stopped.is_none() {
+            return Err(format!("{}: {ours}, worked out apart {stopped:?}", what()));
+        }
+        desk.compare(what)?;
+        list.compare("references", what)?;
+        self.reached.note_order(desk.ledger(), desk.postings(), references, stopped);
+        Ok(ours == 1)
     }
 
     /// The charge and the profile in force of one reference.

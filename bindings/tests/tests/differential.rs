@@ -5,12 +5,15 @@ use std::io::Write;
 use std::time::Instant;
 
 use luddrisa_model::{BAD_LEDGER, UNBALANCED};
-use luddrisa_tests::faults::{Faulty, CONTESTED_APART, FAULTS, JUDGED_APART, OPENED_APART};
+use luddrisa_tests::faults::{
+    Faulty, CONTESTED_APART, FAULTS, JUDGED_APART, OPENED_APART, UNWOUND_APART,
+};
 use luddrisa_tests::plays::Ending;
-use luddrisa_tests::reached::FOUND;
+use luddrisa_tests::reached::{FOUND, IN_ORDER};
 use luddrisa_tests::rules::{Model, Rules};
 use luddrisa_tests::run::{Difference, Run, UNWRITTEN};
-use luddrisa_tests::{batches, contests, dense, desks, edges, lists, openings, stamps};
+use luddrisa_tests::unwound::Obstacle;
+use luddrisa_tests::{annulments, batches, contests, dense, desks, edges, lists, openings, stamps};
 
 #[cfg(feature = "archive")]
 const SUBJECT: &dyn Rules = &luddrisa_tests::rules::Library;
@@ -42,7 +45,13 @@ fn everything(run: &mut Run, seed: u64, scale: u32) -> Result<(), Difference> {
     openings::day_word_by_word(run)?;
     openings::every_length(run)?;
     openings::of_many_rows(run)?;
-    all_contests(run, seed, scale)
+    all_contests(run, seed, scale)?;
+    all_annulments(run, seed, scale)
+}
+
+/// The generators of annulments in order, so many times over.
+fn all_annulments(run: &mut Run, seed: u64, scale: u32) -> Result<(), Difference> {
+    annulments::annulments(run, seed, 15 * scale)
 }
 
 /// The generators of contests, so many times over.
@@ -58,15 +67,17 @@ fn all_agree_and_every_pair_is_reached() {
     let agree = everything(&mut run, SEED, 200).and_then(|()| dense::greatest(&mut run, SEED));
     let seconds = start.elapsed().as_secs_f64();
     println!(
-        "{} actions and {} contests in {seconds:.1} s\n{}",
+        "{} actions, {} contests and {} orders of annulments in {seconds:.1} s\n{}",
         run.actions,
         run.contests,
+        run.orders,
         run.reached.told()
     );
     expect_agreement(agree);
     expect_agreement(run.reached.check());
     assert!(run.actions >= 500_000, "only {} actions", run.actions);
     assert!(run.contests >= 100_000, "only {} contests", run.contests);
+    assert!(run.orders >= 100_000, "only {} orders", run.orders);
 }
 
 /// The model's 22 is that of the ledger as the action would leave it.
@@ -85,6 +96,81 @@ fn openings_worked_out_apart_agree_with_the_model() {
 #[test]
 fn contests_worked_out_apart_agree_with_the_model() {
     expect_agreement(all_contests(&mut Run::new(&CONTESTED_APART), SEED, 40));
+}
+
+/// Annulments worked out a second time, from the ledger as it was handed over.
+#[test]
+fn annulments_worked_out_apart_agree_with_the_model() {
+    let mut run = Run::new(&UNWOUND_APART);
+    expect_agreement(all_annulments(&mut run, SEED, 40));
+    expect_agreement(annulments::every_list_of_the_day(&mut run));
+}
+
+/// Yes and no, for each reason at the first step and at a later one, in lists of many.
+#[test]
+fn annulments_come_to_each_step() {
+    let mut run = Run::new(SUBJECT);
+    let start = Instant::now();
+    let agree = annulments::annulments(&mut run, SEED, 12_000)
+        .and_then(|()| annulments::every_list_of_the_day(&mut run))
+        .and_then(|()| annulments::of_many_rows(&mut run))
+        .and_then(|()| annulments::greatest(&mut run));
+    let seconds = start.elapsed().as_secs_f64();
+    println!("{} orders in {seconds:.1} s\n{}", run.orders, run.reached.told());
+    expect_agreement(agree);
+    for obstacle in Obstacle::ALL {
+        for &step in obstacle.steps() {
+            let times = run.reached.times_stopped(obstacle, step);
+            assert!(times >= 500, "{obstacle:?} {step:?} only {times} times");
+        }
+    }
+    for met in IN_ORDER {
+        let times = run.reached.times_in_order(met);
+        assert!(times >= 150, "{met:?} only {times} times");
+    }
+}
+
+/// What lists leave is unwound from the ends: nothing comes back to a row that went, no
+/// displaced word passes 100,000, and only a firm redirect meets the posting. A row may go
+/// before a redirect that came from it, but only where all of that was relinquished.
+#[test]
+fn what_lists_leave_is_unwound_from_its_ends() {
+    use luddrisa_tests::reached::{InOrder::*, Receiver, MANY};
+    let mut run = Run::new(SUBJECT);
+    expect_agreement(annulments::along_lists(&mut run, SEED, 2_000));
+    let stopped = |obstacle: Obstacle| -> u64 {
+        obstacle.steps().iter().map(|&step| run.reached.times_stopped(obstacle, step)).sum()
+    };
+    let never = [Obstacle::UnsoundLedger, Obstacle::WrongPostings, Obstacle::OverBound];
+    for obstacle in Obstacle::ALL {
+        println!("{obstacle:?} × {}", stopped(obstacle));
+        assert_eq!(stopped(obstacle) == 0, never.contains(&obstacle), "{obstacle:?}");
+    }
+    let redirects = [luddrisa_model::REDIRECT_FIRM].into();
+    assert_eq!(run.reached.types_stopped(Obstacle::OverPosting), redirects);
+    for met in [
+        NothingOfNoLedger,
+        BackTo(Receiver::Gone),
+        BackTo(Receiver::Neither),
+        Blocked(Obstacle::InUse),
+        Blocked(Obstacle::OverBound),
+    ] {
+        assert_eq!(run.reached.times_in_order(met), 0, "{met:?}");
+    }
+    for (met, least) in [
+        (Accepted(4), 500),
+        (Accepted(MANY), 500),
+        (Open, 5_000),
+        (ReturnGivenUp, 5),
+        (BackTo(Receiver::Confirmed), 1_000),
+        (BackTo(Receiver::Displaced), 200),
+        (Freed(Obstacle::InUse), 500),
+        (InAnotherOrder(Obstacle::InUse), 50),
+    ] {
+        let times = run.reached.times_in_order(met);
+        println!("{met:?} × {times}");
+        assert!(times >= least, "{met:?} only {times} times");
+    }
 }
 
 /// Each number and each ending, for rows of every type that can meet it.
@@ -168,8 +254,9 @@ fn planted_faults_are_caught() {
     // Without a fault the same seeds find nothing.
     assert_eq!(everything(&mut Run::new(&Model), SEED, 16), Ok(()));
     let mut missed = Vec::new();
-    // Those of contests are for their own generators.
-    for faulty in FAULTS.iter().filter(|faulty| !faulty.is_of_contests()) {
+    // Those of contests and of annulments in order are for their own generators.
+    let is_of_others = |faulty: &&Faulty| faulty.is_of_contests() || faulty.is_of_annulments();
+    for faulty in FAULTS.iter().filter(|faulty| !is_of_others(faulty)) {
         let mut run = Run::new(faulty);
         match everything(&mut run, SEED, 16) {
             Ok(()) => missed.push(faulty.name),
@@ -180,7 +267,7 @@ fn planted_faults_are_caught() {
         }
     }
     assert!(missed.is_empty(), "not caught: {missed:?}");
-    assert!(FAULTS.len() > 285, "only {}", FAULTS.len());
+    assert!(FAULTS.len() > 390, "only {}", FAULTS.len());
 }
 
 /// No other generator is needed to find a fault in contests.
@@ -197,6 +284,25 @@ fn contests_alone_catch_their_faults() {
             Err(difference) => {
                 let told: String = difference.chars().take(100).collect();
                 println!("{}: {} contests, {told}", faulty.name, run.contests);
+            }
+        }
+    }
+    assert!(missed.is_empty(), "not caught: {missed:?}");
+}
+
+/// No other generator is needed to find a fault in annulments in order.
+#[test]
+fn annulments_alone_catch_their_faults() {
+    let of_annulments: Vec<_> = FAULTS.iter().filter(|faulty| faulty.is_of_annulments()).collect();
+    assert!(of_annulments.len() > 100, "only {}", of_annulments.len());
+    let mut missed = Vec::new();
+    for faulty in of_annulments {
+        let mut run = Run::new(faulty);
+        match annulments::annulments(&mut run, SEED, 400) {
+            Ok(()) => missed.push(faulty.name),
+            Err(difference) => {
+                let told: String = difference.chars().take(100).collect();
+                println!("{}: {} orders, {told}", faulty.name, run.orders);
             }
         }
     }

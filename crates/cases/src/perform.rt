@@ -213,6 +213,20 @@ fn open(l: &[u32], f: &[u32], got: &mut [u32; MOST_NUMBERS]) -> Ran {
     one(got, opening::open_number(l))
 }
 
+// Yes as a number.
+fn yes(answer: bool) -> u32 {
+    if answer {
+        return 1;
+    }
+    0
+}
+
+// Whether the annulments of the references, one after another, are all accepted.
+fn annuls(l: &[u32], postings: &[u32], references: &[u32], got: &mut [u32; MOST_NUMBERS]) -> Ran {
+    let answer = unwinding::annuls_in_order(l, postings, references);
+    one(got, yes(answer))
+}
+
 // The number of the charge of a row, its millions of cents and the cents beyond them.
 fn charge(l: &[u32], f: &[u32], got: &mut [u32; MOST_NUMBERS]) -> Ran {
     if f.len() != 1 {
@@ -297,7 +311,7 @@ fn room(f: &[u32]) -> Ran {
     Ran::Room(look::place(f[0]))
 }
 
-// The lines about postings that are no action; then those about the ledger.
+// The lines about postings that are no action, annulments in order among them; then those about the ledger alone.
 fn other(
     verb: &[u8],
     f: &[u32],
@@ -315,6 +329,9 @@ fn other(
     }
     if same(verb, b"altered-postings") {
         return one(got, differing(&postings[..], &posted_before[..]));
+    }
+    if same(verb, b"annuls") {
+        return annuls(&l[..], &postings[..], f, got);
     }
     of_ledger(verb, f, l, before, got)
 }

@@ -1,10 +1,12 @@
 // The ledger for others to link: the calls offered to the outside.
 ghost use mathlib.Core.Path.{_≡_};
 ghost use lib.ListN.{length};
+ghost use Rattle.rules.specs.Pick.{pick};
 ghost use Rattle.rules.specs.Create.{createNumber, created};
 ghost use Rattle.rules.specs.Contest.{contested};
 ghost use Rattle.rules.specs.Calls.{togetherNumber, togetherRun, togetherAnswers};
 ghost use Rattle.rules.specs.Open.{openNumber};
+ghost use Rattle.rules.specs.Annulments.{annulsInOrder};
 ghost use Rattle.rules.specs.ReadOut.{shown, charge as chargeOf};
 ghost use Rattle.stamp.specs.Stamp.{reading, writeNumber, written};
 ghost use Rattle.luddrisa.specs.HandedOut.{handedOut};
@@ -86,6 +88,22 @@ pub extern "C" fn luddrisa_contest(
         holder,
     };
     contest::run_contest(ledger, postings, k, moves, replies)
+}
+
+// Whether the references can be annulled in this order, each by its row's seller: 1, or 0. Ledger and postings are only
+// read.
+#[no_mangle]
+pub extern "C" fn luddrisa_annuls_in_order(
+    ledger: &[u32],
+    postings: &[u32],
+    references: &[u32],
+) -> u32
+    ensures { λ r. ⌜ r ≡ pick (annulsInOrder (now (ledger .entry)) (now (postings .entry)) (now (references .entry))) 1 0 ⌝ }
+{
+    if unwinding::annuls_in_order(ledger, postings, references) {
+        return 1;
+    }
+    0
 }
 
 // The charge of a CONFIRMED row in cents, or its number with 0 cents.

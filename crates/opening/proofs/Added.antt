@@ -46,12 +46,12 @@ module _ {l : List ℕ} {R H : ℕ} (s : SoundAt l R H) where
     hours-in : hourAt H p 0 + H ≤ length (row H l n)
     hours-in = let long : length (row H l n) ≡ rowSize H = row-length (sized-at s) (in-rows lt) in omega (arith, hour-in H plt, long)
 
-    hours-at : (h : ℕ) → h < H → wordAt (hoursOf H p 0 H (row H l n)) h ≡ wordAt (row H l n) (hourAt H p h)
+    pub hours-at : (h : ℕ) → h < H → wordAt (hoursOf H p 0 H (row H l n)) h ≡ wordAt (row H l n) (hourAt H p h)
     hours-at h hlt =
         let e : hourAt H p 0 + h ≡ hourAt H p h = omega arith in
         part-at (row H l n) (hourAt H p 0) H hours-in h hlt ∙ ap (wordAt (row H l n)) e
 
-    hours-long : length (hoursOf H p 0 H (row H l n)) ≡ H
+    pub hours-long : length (hoursOf H p 0 H (row H l n)) ≡ H
     hours-long = part-length (row H l n) (hourAt H p 0) H hours-in
 
     module _ {sums : List ℕ} (o : Sums H (mostSum + mostShare) sums) where

@@ -24,7 +24,7 @@ use layout::rows::row_at;
 use layout::rows::word_at;
 
 // Profile p of row n is added.
-fn add_hours(sums: &mut [u32], l: &[u32], rows: usize, hours: usize, n: usize, p: usize)
+pub fn add_hours(sums: &mut [u32], l: &[u32], rows: usize, hours: usize, n: usize, p: usize)
     requires { ⌜ SoundAt (now l) rows hours ⌝ }
     requires { ⌜ (n < usedRows (now l)) × (p < profiles) ⌝ }
     requires { ⌜ Sums hours (mostSum + mostShare) (now sums) ⌝ }

@@ -5,7 +5,9 @@ ghost use Rattle.words.specs.Lists.{wordAt, noughts};
 ghost use Rattle.rules.specs.Numbers.{availablePart};
 ghost use Rattle.rules.specs.Layout.{used as usedRows, row, hourAt, standing};
 ghost use Rattle.rules.proofs.SoundFacts.{SoundHours};
+ghost use Rattle.rules.specs.Paths.{useOf};
 ghost use Rattle.layout.specs.Bounds.{Spanned};
+ghost use Rattle.layout.specs.SoundAt.{SoundAt};
 ghost use Rattle.paths.specs.Changes.{heldIn, addedBy, useBy, Changing, RowChanging, Sums, Adding, Taking, Adds, Takes, Summed};
 use crate::Change;
 use crate::counting::counts;
@@ -114,4 +116,20 @@ pub fn add_rows(
         let at = row_at(rows, hours, m);
         add_counted(sums, &l[at..at + size], l, rows, hours, c, x, m, start, mw);
     }
+}
+
+// Where nothing changes: sums that were 0 are the use of path x.
+pub fn add_use(sums: &mut [u32], l: &[u32], rows: usize, hours: usize, x: u32)
+    requires { ⌜ SoundAt (now l) rows hours ⌝ }
+    requires { ⌜ now sums ≡ noughts hours ⌝ }
+    ensures { λ _. ⌜ Summed hours (λ h. useOf hours (now (l .entry)) x h) (now (sums .exit)) ⌝ }
+{
+    let none = Change {
+        row: rows,
+        confirmed: false,
+        holds: false,
+        less: rows,
+        more: rows,
+    };
+    add_rows(sums, l, rows, hours, none, x, 0, &l[..0]);
 }

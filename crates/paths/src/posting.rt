@@ -8,8 +8,7 @@ ghost use Rattle.rules.specs.Numbers.{mostMegawatts};
 ghost use Rattle.rules.specs.Paths.{postingAt, overPosted};
 ghost use Rattle.layout.specs.SoundAt.{SoundAt};
 ghost use Rattle.paths.specs.Exceeding.{Postings, Path};
-use crate::Change;
-use crate::adding::add_rows;
+use crate::adding::add_use;
 use crate::exceeding::posting_at;
 use layout::numbers::MOST_HOURS;
 
@@ -42,14 +41,7 @@ fn sums_exceed(
     requires { ⌜ (start + length (now profile) ≤ hours) × (within mostMegawatts (now profile) ≡ true) ⌝ }
     ensures { λ b. ⌜ b ≡ overPosted hours (now (l .entry)) (splice (now (postings .entry)) (postingAt hours x start) (now (profile .entry))) x ⌝ }
 {
-    let none = Change {
-        row: rows,
-        confirmed: false,
-        holds: false,
-        less: rows,
-        more: rows,
-    };
-    add_rows(sums, l, rows, hours, none, x, start, profile);
+    add_use(sums, l, rows, hours, x);
     let from = posting_at(hours, x, 0);
     !is_covered(&sums[..], &postings[from..from + hours], start, profile)
 }

@@ -158,7 +158,7 @@ module _ {H s : ℕ} {v r : List ℕ} (m : Room H s v r) (p : ℕ) (plt : p < pr
       let i : hourAt H p s + k ≡ hourAt H p h = omega (arith, e) in
       part-at r (hourAt H p s) (length v) (omega (arith, hour-in H plt, m .long, m .fits)) k lt ∙ ap (λ (j : ℕ). getD r j 0) i
 
-  room-hour : roomy mostMegawatts v (hoursOf H p s (length v) r) ≡ true → (h : ℕ) → megawatts H h r p ≤ mostMegawatts → megawatts H h r p + standing s v h ≤ mostMegawatts
+  pub room-hour : roomy mostMegawatts v (hoursOf H p s (length v) r) ≡ true → (h : ℕ) → megawatts H h r p ≤ mostMegawatts → megawatts H h r p + standing s v h ≤ mostMegawatts
   room-hour e h b =
       ⊎-elim
       (λ u. omega (arith, standing-off s v (inl u), b))
@@ -172,7 +172,7 @@ module _ {H s : ℕ} {v r : List ℕ} (m : Room H s v r) (p : ℕ) (plt : p < pr
       (lt-or-le h (s + length v)))
       (lt-or-le h s)
 
-  hour-room : ((h : ℕ) → s ≤ h → h < s + length v → megawatts H h r p + standing s v h ≤ mostMegawatts) → roomy mostMegawatts v (hoursOf H p s (length v) r) ≡ true
+  pub hour-room : ((h : ℕ) → s ≤ h → h < s + length v → megawatts H h r p + standing s v h ≤ mostMegawatts) → roomy mostMegawatts v (hoursOf H p s (length v) r) ≡ true
   hour-room b =
       roomy-all mostMegawatts v (hoursOf H p s (length v) r)
       (λ k lt.

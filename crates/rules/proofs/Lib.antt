@@ -67,3 +67,9 @@ pub mod Apart
 pub mod Follows
 pub mod Parallel
 pub mod CommonPath
+pub mod Unwound
+pub mod UnwoundUse
+pub mod Unwinding
+pub mod Annulments
+pub mod Listed
+pub mod Annulled

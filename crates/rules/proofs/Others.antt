@@ -67,14 +67,14 @@ module _ {R H : ℕ} {l : List ℕ} {n : ℕ} (o : Placed R H l n) {h : ℕ} (hl
   displaced-turned = turned (o .sized) (o .own) (displacedRow H) refl (displaces .long)
 
   -- ---- annulling
-  annuls : Seen H h (annulledRow H (row H l n)) (at (words (row H l n)) 1 16) (at (megawatts H h (row H l n)) availablePart 0)
+  pub annuls : Seen H h (annulledRow H (row H l n)) (at (words (row H l n)) 1 16) (at (megawatts H h (row H l n)) availablePart 0)
   unfolding annulledRow
   annuls =
       seen-set
       (seen-clear (seen-self H h (row H l n) (own-long o)) hlt availablePart s (spanHours (row H l n)) (lit< tt) (span-fits o) (zero-span o hlt availablePart (lit< tt)))
       1 16 (lit< tt)
 
-  annulled-turned : Turned R H l (onRow H n (annulledRow H) l) n (annulledRow H (row H l n))
+  pub annulled-turned : Turned R H l (onRow H n (annulledRow H) l) n (annulledRow H (row H l n))
   annulled-turned = turned (o .sized) (o .own) (annulledRow H) refl (annuls .long)
 
   module _ (t : 3 ≤ reqtype (row H l n)) where
@@ -82,19 +82,19 @@ module _ {R H : ℕ} {l : List ℕ} {n : ℕ} (o : Placed R H l n) {h : ℕ} (hl
     abbrev p : ℕ
     p = relatedRow H l n
 
-    gives : Seen H h (giveBack H s (granted H (row H l n)) (row H l p)) (words (row H l p)) (at (megawatts H h (row H l p)) (returnsTo (row H l p)) (megawatts H h (row H l p) (returnsTo (row H l p)) + standing s (granted H (row H l n)) h))
+    pub gives : Seen H h (giveBack H s (granted H (row H l n)) (row H l p)) (words (row H l p)) (at (megawatts H h (row H l p)) (returnsTo (row H l p)) (megawatts H h (row H l p) (returnsTo (row H l p)) + standing s (granted H (row H l n)) h))
     gives = seen-given hlt (room-for o (span-length o grantedPart (lit< tt)) (above-row o t))
 
-    given-turned : Turned R H l (returnedTo H n l) p (giveBack H s (granted H (row H l n)) (row H l p))
+    pub given-turned : Turned R H l (returnedTo H n l) p (giveBack H s (granted H (row H l n)) (row H l p))
     given-turned = turned (o .sized) (above-row o t) (giveBack H s (granted H (row H l n))) refl (gives .long)
 
-    own-kept : row H (returnedTo H n l) n ≡ row H l n
+    pub own-kept : row H (returnedTo H n l) n ≡ row H l n
     own-kept = given-turned .other n (λ z. omega (arith, o .lower t, z))
 
-    child-turned : Turned R H (returnedTo H n l) (onRow H n (annulledRow H) (returnedTo H n l)) n (annulledRow H (row H l n))
+    pub child-turned : Turned R H (returnedTo H n l) (onRow H n (annulledRow H) (returnedTo H n l)) n (annulledRow H (row H l n))
     child-turned = turned (given-turned .sized) (o .own) (annulledRow H) own-kept (annuls .long)
 
-    above-is : row H (onRow H n (annulledRow H) (returnedTo H n l)) p ≡ giveBack H s (granted H (row H l n)) (row H l p)
+    pub above-is : row H (onRow H n (annulledRow H) (returnedTo H n l)) p ≡ giveBack H s (granted H (row H l n)) (row H l p)
     above-is = child-turned .other p (λ z. omega (arith, o .lower t, z)) ∙ given-turned .own
 
   module _ (out out′ : ℕ → ℕ → ℤ) (red red′ : ℕ → ℤ) (type : reqtype (row H l n) ≢ RELINQUISH) (before : status (row H l n) ≡ 13) where

@@ -24,6 +24,7 @@ pub mod Tally
 pub mod Balance
 pub mod Limits
 pub mod Open
+pub mod Annulments
 pub mod ReadOut
 pub mod Day
 pub mod Parallel

@@ -1,5 +1,5 @@
 -- `paths::posting::sums_exceed` meets its contract.
-use mathlib.Core.Path.{refl, sym, ap, _∙_}
+use mathlib.Core.Path.{sym, ap, _∙_}
 use mathlib.Core.Bool.{not}
 use native.Mathlib.Omega.{arith}
 use borrow.Author.Needs.{needs}
@@ -7,13 +7,12 @@ use Rattle.words.specs.Lists.{splice}
 use Rattle.words.proofs.Laws.{lent-length}
 use Rattle.rules.specs.Paths.{postingAt, useOf, overPosted}
 use Rattle.rules.proofs.OverPaths.{exceeds}
-use Rattle.paths.proofs.Changed.{use-now, unchanged-fits}
 use Rattle.paths.proofs.Posted.{exceeds-by, posting-in}
 use Rattle.paths.proofs.Overlaid.{overlaid-each}
 use Rattle.paths.proofs.posting.sums_exceed.Statement.{statement}
 use Rattle.paths.proofs.posting.sums_exceed.Tie as tie
 
-abbrev S : tie.After-add-rows → tie.Start
+abbrev S : tie.After-add-use → tie.Start
 S c = c .before .before .before .before .before .before
 
 pub sums-exceed-spec : {M : Type 1} → statement M
@@ -21,9 +20,7 @@ unfolding overPosted exceeds
 sums-exceed-spec =
     tie.close
     (tie.spec
-    (λ c κs.
-    let s = c .before .before .before .before .before in
-    (unchanged-fits (s .pre .0) (record { own = refl; confirmed = refl; less = refl; more = refl }) (s .args .start) (s .args .profile .now) (s .pre .1 .1 .1 .1 .0) (s .pre .1 .1 .1 .1 .1), s .pre .1 .0))
+    (λ c κs. search needs)
     (λ c κs. search needs)
     (λ c. search needs)
     (λ c. search needs)
@@ -37,7 +34,7 @@ sums-exceed-spec =
     let t = c .before .before in
     let g = t .before .before .before in
     let s = S g in
-    (lent-length (s .args .postings .now) (t .posting-at .result) (postingAt (s .args .hours) (s .args .x) 0) (s .args .hours) (t .posting-at .ensures .is) (posting-in (s .pre .1 .1 .0) (t .posting-at .ensures)) ∙ sym (g .add-rows .ensures .long), omega (arith, s .pre .1 .1 .1 .1 .0, g .add-rows .ensures .long)))
+    (lent-length (s .args .postings .now) (t .posting-at .result) (postingAt (s .args .hours) (s .args .x) 0) (s .args .hours) (t .posting-at .ensures .is) (posting-in (s .pre .1 .1 .0) (t .posting-at .ensures)) ∙ sym (g .add-use .ensures .long), omega (arith, s .pre .1 .1 .1 .1 .0, g .add-use .ensures .long)))
     (λ c. search needs)
     (λ c.
     let t = c .before .before .before in
@@ -45,5 +42,5 @@ sums-exceed-spec =
     let s = S g in
     ap not (c .is-covered .ensures)
     ∙ exceeds-by (s .args .hours) (splice (s .args .postings .now) (postingAt (s .args .hours) (s .args .x) (s .args .start)) (s .args .profile .now)) (λ y h. useOf (s .args .hours) (s .args .l .now) y h) (s .args .x) _
-    (record { long = g .add-rows .ensures .long; each = λ h lt. g .add-rows .ensures .each h lt ∙ use-now (s .pre .0) (record { own = refl; confirmed = refl; less = refl; more = refl }) (s .args .start) (s .args .profile .now) (s .args .x) h })
+    (g .add-use .ensures)
     (overlaid-each (s .pre .1 .1 .0) (t .posting-at .ensures) (s .args .start) (s .args .profile .now) (s .pre .1 .1 .1 .1 .0))))

@@ -1,0 +1,10 @@
+pub mod Passes
+pub mod Steps
+pub mod Counted
+pub mod Marked
+pub mod GivenBack
+pub mod Movable
+pub mod Followed
+pub mod Fitted
+pub mod Carried
+pub mod Judged
