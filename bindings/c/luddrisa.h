@@ -41,7 +41,10 @@
  *           10 ACCEPTED, 11 CR_ACCEPTED, 12 DECLINED, 13 CONFIRMED,
  *           14 WITHDRAWN, 15 DISPLACED, 16 ANNULLED, 17 RETRACTED
  * FLAGS     1 preconfirmed, 2 coordinated (these two on submission), 4 approved,
- *           8 granted given, 16 offer given
+ *           8 granted given, 16 offer given, 32 countered (these four are set by
+ *           the ledger). A move to 6 or 7 sets 32 for good, and a preconfirmed row
+ *           that has it can be withdrawn from any open status, one that has not
+ *           only from 6, 7 and 11
  *
  * ACTIONS, the fields they read beside kind and actor:
  *

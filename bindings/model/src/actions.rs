@@ -308,6 +308,9 @@ fn offer(
     row.set(ledger, OFFER, action.price);
     row.set(ledger, LIMIT, ledger[NOW] + ledger[WINDOW]);
     flags |= OFFER_GIVEN;
+    if !accepts {
+        flags |= COUNTERED;
+    }
     if let Some(profile) = comes {
         let span = row.span(ledger, GRANTED);
         ledger[span].copy_from_slice(profile);
@@ -374,7 +377,7 @@ fn customer_status(
     let moves = match status {
         REBID => matches!(before, COUNTEROFFER | CR_COUNTEROFFER),
         CONFIRMED => matches!(before, COUNTEROFFER | CR_COUNTEROFFER | ACCEPTED | CR_ACCEPTED),
-        WITHDRAWN if flags & PRECONFIRMED != 0 => {
+        WITHDRAWN if flags & (PRECONFIRMED | COUNTERED) == PRECONFIRMED => {
             matches!(before, COUNTEROFFER | CR_COUNTEROFFER | CR_ACCEPTED)
         }
         WITHDRAWN => is_open(before),

@@ -52,7 +52,7 @@ pub const END_SECOND: u32 = 3_155_760_000;
 pub const END_LIMIT: u32 = 3_158_352_000;
 pub const MAX_PRICE: u32 = 99_999_999;
 pub const MAX_MW: u32 = 100_000;
-pub const MAX_FLAGS: u32 = 31;
+pub const MAX_FLAGS: u32 = 63;
 /// Paths are 1 to this.
 pub const MAX_PATH: u32 = 64;
 
@@ -91,6 +91,8 @@ pub const COORDINATED: u32 = 2;
 pub const APPROVED: u32 = 4;
 pub const GRANTED_GIVEN: u32 = 8;
 pub const OFFER_GIVEN: u32 = 16;
+/// Was moved to 6 or 7 once.
+pub const COUNTERED: u32 = 32;
 
 // Kinds of action.
 pub const SUBMIT: u32 = 1;

@@ -1,6 +1,6 @@
-//! The hourly reservation ledger of document 01 with the path limits, the kept
-//! reductions, the balance on opening, the first refusal and the annulments in order of
-//! document 02, written from the papers alone.
+//! The hourly reservation ledger of document 01 with the withdrawal after a rebid, the
+//! path limits, the kept reductions, the balance on opening, the first refusal and the
+//! annulments in order of document 02, written from the papers alone.
 //!
 //! A ledger is a slice of 32-bit words: a head of 8 words, then R rows of
 //! 16 + 5 × H words each. What the provider posts for each path and hour stands

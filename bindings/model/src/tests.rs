@@ -1,4 +1,4 @@
-//! The day at the desk, each refusal once, contests, and annulments in order.
+//! The day at the desk, each refusal once, withdrawals, contests, and annulments in order.
 
 use super::*;
 
@@ -117,6 +117,14 @@ impl Desk {
             Answer { number: 0, before: 13, after: 13, .. } => Ended::Stands,
             Answer { number, .. } => Ended::Refused(number),
         }
+    }
+
+    /// A move without megawatts from one status to another, and the flags that it leaves.
+    fn moves(&mut self, action: Action, profile: &[u32], (before, after): (u32, u32), flags: u32) {
+        let reference = action.reference;
+        let expected = Answer { number: 0, reference, before, after, moved: 0 };
+        assert_eq!(self.act(action, profile), expected, "{action:?}");
+        assert_eq!((self.field(reference, STATUS), self.field(reference, FLAGS)), (after, flags));
     }
 
     fn annuls(&self, references: &[u32]) -> bool {
@@ -1089,6 +1097,233 @@ fn paths_of_foreign_rows() {
         let one = desk.original(ORIGINAL_FIRM, 100);
         Row::of(&desk.ledger, one).set(&mut desk.ledger, PATH, path);
         assert!(!sound(&desk.ledger));
+    }
+}
+
+// Withdrawal after a rebid.
+
+/// Customer 20's request for 50 and 60 MW at 7 cents, queued as reference 1.
+fn requested(flags: u32) -> Desk {
+    let mut desk = Desk::new(4, 2);
+    desk.ok(submission(20, ORIGINAL_FIRM, 1, 0, 0, 2, flags, 7), &[50, 60]);
+    desk
+}
+
+/// The same at another status and with flags that no submission brings.
+fn foreign(status: u32, flags: u32) -> Desk {
+    let mut desk = requested(0);
+    desk.set(1, STATUS, status);
+    desk.set(1, FLAGS, flags);
+    desk
+}
+
+fn withdrawal(reference: u32) -> Action {
+    customer(20, reference, WITHDRAWN, 0)
+}
+
+#[test]
+fn a_countered_row_is_withdrawn_after_a_rebid() {
+    for (flags, counteroffer) in [(1, COUNTEROFFER), (3, CR_COUNTEROFFER)] {
+        let mut desk = requested(flags);
+        assert_eq!(desk.number(withdrawal(1), &[]), BAD_MOVE);
+        let left = flags + 8 + 16 + 32;
+        desk.moves(seller(1, 1, counteroffer, 9), &[40, 60], (1, counteroffer), left);
+        desk.moves(customer(20, 1, REBID, 8), &[], (counteroffer, 8), left);
+        desk.moves(withdrawal(1), &[], (8, 14), left);
+        assert_eq!(desk.number(withdrawal(1), &[]), BAD_MOVE);
+        assert_eq!(balanced(&desk.ledger, &desk.tally), Ok(()));
+    }
+    // Of a counteroffer without a profile nothing is granted.
+    let mut desk = requested(1);
+    desk.moves(seller(1, 1, COUNTEROFFER, 9), &[], (1, 6), 1 + 16 + 32);
+    desk.moves(customer(20, 1, REBID, 9), &[50, 50], (6, 8), 1 + 16 + 32);
+    desk.moves(withdrawal(1), &[], (8, 14), 1 + 16 + 32);
+}
+
+#[test]
+fn a_preconfirmed_row_never_countered_is_not_withdrawn() {
+    let mut desk = requested(1);
+    assert_eq!(desk.number(withdrawal(1), &[]), BAD_MOVE);
+    desk.moves(seller(1, 1, RECEIVED, 0), &[], (1, 3), 1);
+    assert_eq!(desk.number(withdrawal(1), &[]), BAD_MOVE);
+    desk.moves(seller(1, 1, STUDY, 0), &[], (3, 4), 1);
+    assert_eq!(desk.number(withdrawal(1), &[]), BAD_MOVE);
+    // Words that no list leaves behind.
+    for status in [REBID, ACCEPTED] {
+        desk.set(1, STATUS, status);
+        assert_eq!(desk.number(withdrawal(1), &[]), BAD_MOVE, "{status}");
+    }
+}
+
+#[test]
+fn a_countered_row_is_confirmed_as_any_other() {
+    let confirmed = Answer { number: 0, reference: 1, before: 8, after: 13, moved: 100 };
+    let mut desk = requested(1);
+    desk.moves(seller(1, 1, COUNTEROFFER, 9), &[40, 60], (1, 6), 1 + 8 + 16 + 32);
+    desk.moves(customer(20, 1, REBID, 9), &[40, 60], (6, 8), 1 + 8 + 16 + 32);
+    assert_eq!(desk.act(seller(1, 1, ACCEPTED, 9), &[]), confirmed);
+    assert_eq!(desk.field(1, FLAGS), 1 + 8 + 16 + 32);
+    // 100 MW-hours at 9 cents are 37 and a half.
+    assert_eq!(charge(&desk.ledger, 1), Ok(38));
+    assert_eq!(desk.number(withdrawal(1), &[]), BAD_MOVE);
+    desk.ok(seller(1, 1, DISPLACED, 0), &[]);
+    assert_eq!(desk.field(1, FLAGS), 1 + 8 + 16 + 32);
+    assert_eq!(balanced(&desk.ledger, &desk.tally), Ok(()));
+    // By the customer, who takes the counteroffer as it is.
+    let mut desk = requested(0);
+    desk.moves(seller(1, 1, COUNTEROFFER, 9), &[40, 60], (1, 6), 8 + 16 + 32);
+    let answer = desk.act(customer(20, 1, CONFIRMED, 9), &[40, 60]);
+    assert_eq!(answer, Answer { before: 6, ..confirmed });
+    assert_eq!(desk.field(1, FLAGS), 8 + 16 + 32);
+}
+
+#[test]
+fn flags_go_up_to_63_at_every_status() {
+    for status in 1..=17 {
+        for flags in 0..=63 {
+            assert!(sound(&foreign(status, flags).ledger), "{status} with flags {flags}");
+        }
+        for flags in [64, 65, 96, 127, 1 << 31, u32::MAX] {
+            let mut desk = foreign(status, flags);
+            assert!(!sound(&desk.ledger), "{status} with flags {flags}");
+            assert_eq!(desk.number(withdrawal(1), &[]), BAD_LEDGER);
+            assert_eq!(open(&desk.ledger), BAD_LEDGER);
+        }
+    }
+}
+
+#[test]
+fn withdrawals_from_every_status() {
+    const OPEN: &[u32] = &[1, 3, 4, 6, 7, 8, 10, 11];
+    for (flags, from) in [(0, OPEN), (1, &[6, 7, 11]), (32, OPEN), (33, OPEN)] {
+        // The other flags are not asked for.
+        for others in [0, 2, 4, 8, 16, 2 + 4 + 8 + 16] {
+            for status in 1..=17 {
+                let mut desk = foreign(status, flags + others);
+                if from.contains(&status) {
+                    desk.moves(withdrawal(1), &[], (status, 14), flags + others);
+                } else {
+                    assert_eq!(desk.number(withdrawal(1), &[]), BAD_MOVE, "{status} {flags}");
+                }
+            }
+        }
+    }
+}
+
+#[test]
+fn a_countered_row_that_no_counteroffer_made() {
+    // Without flag 1 it is no preconfirmed row.
+    let mut desk = foreign(QUEUED, 32);
+    assert_eq!(desk.number(seller(1, 1, ANNULLED, 0), &[]), BAD_MOVE);
+    desk.moves(seller(1, 1, ACCEPTED, 7), &[], (1, 10), 8 + 16 + 32);
+    desk.moves(withdrawal(1), &[], (10, 14), 8 + 16 + 32);
+    // With it, it is one still.
+    let mut desk = foreign(QUEUED, 33);
+    desk.moves(seller(1, 1, RECEIVED, 0), &[], (1, 3), 33);
+    assert_eq!(desk.ok(seller(1, 1, ACCEPTED, 7), &[]).after, CONFIRMED);
+    assert_eq!(desk.field(1, FLAGS), 1 + 8 + 16 + 32);
+}
+
+#[test]
+fn a_row_of_an_old_ledger_is_countered_anew() {
+    for (counteroffer, flags) in [(COUNTEROFFER, 1 + 16), (CR_COUNTEROFFER, 1 + 2 + 16)] {
+        foreign(counteroffer, flags).moves(withdrawal(1), &[], (counteroffer, 14), flags);
+        let mut desk = foreign(counteroffer, flags);
+        desk.moves(customer(20, 1, REBID, 8), &[], (counteroffer, 8), flags);
+        assert_eq!(desk.number(withdrawal(1), &[]), BAD_MOVE);
+        desk.moves(seller(1, 1, counteroffer, 9), &[], (8, counteroffer), flags + 32);
+        desk.moves(customer(20, 1, REBID, 8), &[], (counteroffer, 8), flags + 32);
+        desk.moves(withdrawal(1), &[], (8, 14), flags + 32);
+    }
+}
+
+#[test]
+fn a_countered_transfer_that_waits_is_withdrawn() {
+    for reqtype in [PART_TRANSFER, FULL_TRANSFER] {
+        let mut desk = Desk::new(4, 1);
+        let one = desk.original(ORIGINAL_FIRM, 100);
+        let submitted = submission(20, reqtype, 10, one, 0, 1, 1, 7);
+        let part = desk.ok(submitted, &[100]).reference;
+        desk.moves(seller(10, part, ACCEPTED, 7), &[], (1, 10), 1 + 8 + 16);
+        assert_eq!(desk.number(withdrawal(part), &[]), BAD_MOVE);
+        let left = 1 + 8 + 16 + 32;
+        desk.moves(seller(10, part, COUNTEROFFER, 9), &[], (10, 6), left);
+        desk.moves(customer(20, part, REBID, 9), &[], (6, 8), left);
+        desk.moves(seller(10, part, ACCEPTED, 9), &[], (8, 10), left);
+        let waiting = desk.ledger.clone();
+        desk.moves(withdrawal(part), &[], (10, 14), left);
+        assert_eq!(desk.number(on(APPROVE, 1, part), &[]), BAD_MOVE);
+        // Approved instead, it is confirmed.
+        desk.ledger = waiting;
+        assert_eq!(desk.ok(on(APPROVE, 1, part), &[]).after, CONFIRMED);
+        assert_eq!(desk.field(part, FLAGS), 1 + 4 + 8 + 16 + 32);
+    }
+}
+
+#[test]
+fn no_countered_row_is_submitted() {
+    let mut desk = Desk::new(4, 2);
+    for flags in [32, 33, 34, 35, 36, 63, 64, 96, u32::MAX] {
+        let submitted = submission(20, ORIGINAL_FIRM, 1, 0, 0, 2, flags, 7);
+        assert_eq!(desk.number(submitted, &[50, 60]), BAD_FLAGS, "{flags}");
+    }
+}
+
+#[test]
+fn a_refused_counteroffer_is_not_noted() {
+    let counteroffer = seller(1, 1, COUNTEROFFER, 9);
+    let cases: [(Action, &[u32], u32); 6] = [
+        (Action { actor: 20, ..counteroffer }, &[], BAD_PARTY),
+        (Action { status: CR_COUNTEROFFER, ..counteroffer }, &[], BAD_MOVE),
+        (counteroffer, &[50], BAD_PROFILE),
+        (counteroffer, &[0, 0], BAD_PROFILE),
+        (Action { price: 100_000_000, ..counteroffer }, &[], BAD_TERMS),
+        (counteroffer, &[50, 61], BAD_TERMS),
+    ];
+    for (action, profile, number) in cases {
+        let mut desk = requested(1);
+        assert_eq!(desk.number(action, profile), number, "{action:?} {profile:?}");
+        assert_eq!(desk.field(1, FLAGS), 1);
+        assert_eq!(desk.number(withdrawal(1), &[]), BAD_MOVE);
+    }
+}
+
+#[test]
+fn every_counteroffer_is_noted_and_no_acceptance() {
+    for flags in 0..=3 {
+        let (counteroffer, acceptance) = if flags < 2 { (6, 10) } else { (7, 11) };
+        for from in [1, 3, 4, 8, 10, 11] {
+            let mut desk = foreign(from, flags);
+            let left = flags + 16 + 32;
+            desk.moves(seller(1, 1, counteroffer, 9), &[], (from, counteroffer), left);
+        }
+        for from in [1, 3, 4, 8] {
+            let mut desk = foreign(from, flags);
+            let after = if flags == 1 { 13 } else { acceptance };
+            assert_eq!(desk.ok(seller(1, 1, acceptance, 7), &[]).after, after);
+            assert_eq!(desk.field(1, FLAGS), flags + 8 + 16);
+        }
+    }
+}
+
+#[test]
+fn a_countered_row_stays_so_to_its_end() {
+    let ends = [
+        (COUNTEROFFER, on(LAPSE, 1, 1), RETRACTED),
+        (COUNTEROFFER, withdrawal(1), WITHDRAWN),
+        (REBID, seller(1, 1, REFUSED, 0), REFUSED),
+        (REBID, seller(1, 1, DECLINED, 0), DECLINED),
+        (REBID, seller(1, 1, SUPERSEDED, 0), SUPERSEDED),
+        (REBID, seller(1, 1, ANNULLED, 0), ANNULLED),
+    ];
+    for (before, end, after) in ends {
+        let mut desk = requested(1);
+        desk.moves(seller(1, 1, COUNTEROFFER, 9), &[], (1, 6), 1 + 16 + 32);
+        if before == REBID {
+            desk.moves(customer(20, 1, REBID, 8), &[], (6, 8), 1 + 16 + 32);
+        }
+        desk.ok(clock(1, 3_600), &[]);
+        desk.moves(end, &[], (before, after), 1 + 16 + 32);
     }
 }
 

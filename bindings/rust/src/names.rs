@@ -188,13 +188,17 @@ impl Flags {
     pub const GRANTED_GIVEN: Flags = Flags(8);
     /// An offer was given.
     pub const OFFER_GIVEN: Flags = Flags(16);
+    /// The row was moved to COUNTEROFFER or CR_COUNTEROFFER once: it can be withdrawn from
+    /// any open status, also where it is preconfirmed.
+    pub const COUNTERED: Flags = Flags(32);
 
-    const TEXTS: [(Flags, &'static str); 5] = [
+    const TEXTS: [(Flags, &'static str); 6] = [
         (Flags::PRECONFIRMED, "preconfirmed"),
         (Flags::COORDINATED, "coordinated"),
         (Flags::APPROVED, "approved"),
         (Flags::GRANTED_GIVEN, "granted given"),
         (Flags::OFFER_GIVEN, "offer given"),
+        (Flags::COUNTERED, "countered"),
     ];
 
     /// True where all of the other flags are among these.
@@ -213,7 +217,7 @@ impl BitOr for Flags {
 
 impl fmt::Display for Flags {
     fn fmt(&self, f: &mut fmt::Formatter<'_>) -> fmt::Result {
-        if self.0 > 31 {
+        if self.0 > 63 {
             return write!(f, "unknown Flags {}", self.0);
         }
         let texts: Vec<_> = Flags::TEXTS
@@ -271,7 +275,12 @@ mod tests {
         let both = Flags::PRECONFIRMED | Flags::OFFER_GIVEN;
         assert_eq!(both.to_string(), "preconfirmed, offer given");
         assert!(both.has(Flags::OFFER_GIVEN) && !both.has(Flags::APPROVED));
-        assert_eq!(Flags(32).to_string(), "unknown Flags 32");
+        assert_eq!(Flags::COUNTERED.to_string(), "countered");
+        assert_eq!(
+            Flags(63).to_string(),
+            "preconfirmed, coordinated, approved, granted given, offer given, countered"
+        );
+        assert_eq!(Flags(64).to_string(), "unknown Flags 64");
     }
 
     #[test]

@@ -244,6 +244,45 @@ fn a_path_is_used_up_to_its_posting() {
 }
 
 #[test]
+fn a_countered_row_is_withdrawn_after_a_rebid() {
+    let (mut ledger, mut postings) = with_an_original();
+    let mut profiles = Profiles::new();
+    let request = Action::submit(20, RequestType::ORIGINAL_NON_FIRM, 1)
+        .path(3)
+        .span(1, 3)
+        .flags(Flags::PRECONFIRMED)
+        .price(500)
+        .profile(profiles.add(&[40, 60]));
+    let counteroffer = Action::seller_status(1, 2, Status::COUNTEROFFER)
+        .price(600)
+        .profile(profiles.add(&[40, 30]));
+    let rebid = Action::customer_status(20, 2, Status::REBID).price(550);
+    let withdraw = Action::customer_status(20, 2, Status::WITHDRAWN);
+    const COUNTERED: &str = "preconfirmed, granted given, offer given, countered";
+    for (action, line, flags) in [
+        (request, "0 2 0 1 0", "preconfirmed"),
+        (withdraw, "11 0 0 0 0", "preconfirmed"),
+        (counteroffer, "0 2 1 6 0", COUNTERED),
+        (rebid, "0 2 6 8 0", COUNTERED),
+        (withdraw, "0 2 8 14 0", COUNTERED),
+    ] {
+        assert_eq!(ledger.act(&mut postings, profiles.words(), &action).to_string(), line);
+        assert_eq!(ledger.row(2).unwrap().flags.to_string(), flags);
+    }
+    assert!(ledger.row(2).unwrap().flags.has(Flags::COUNTERED));
+    // It is the ledger's to set, and goes up to 63 with the others.
+    let brought = request.flags(Flags::PRECONFIRMED | Flags::COUNTERED);
+    let answer = ledger.act(&mut postings, profiles.words(), &brought);
+    assert_eq!(answer.refusal(), Some(Refusal::WRONG_FLAGS));
+    let flags_at = 8 + (16 + 5 * 4) + 7;
+    for (flags, is_sound) in [(63, true), (64, false)] {
+        let mut words = ledger.words().to_vec();
+        words[flags_at] = flags;
+        assert_eq!(Ledger::from_words_unopened(words).is_sound(), is_sound);
+    }
+}
+
+#[test]
 fn what_was_cut_is_kept_in_the_row() {
     let (mut ledger, mut postings) = with_an_original();
     let mut profiles = Profiles::new();

@@ -179,7 +179,8 @@ fn fill_row(rng: &mut Rng, ledger: &mut [u32], reference: u32, wish: u32, rows: 
     let flags = if ready {
         let coordinated = if status == CR_ACCEPTED { COORDINATED } else { 0 };
         let approved = if rng.chance(50) { APPROVED } else { 0 };
-        PRECONFIRMED | GRANTED_GIVEN | OFFER_GIVEN | coordinated | approved
+        let countered = if rng.chance(50) { COUNTERED } else { 0 };
+        PRECONFIRMED | GRANTED_GIVEN | OFFER_GIVEN | coordinated | approved | countered
     } else {
         rng.below(MAX_FLAGS + 1)
     };

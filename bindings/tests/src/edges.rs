@@ -1,6 +1,7 @@
 //! Edges: each head, row and posting word at its bound and one over, damaged
 //! ledgers and postings of any length, rows with a profile too few or too many,
-//! wild numbers in every field, creation at its bounds, reductions to the bound.
+//! wild numbers in every field, creation at its bounds, reductions to the bound,
+//! withdrawals and offers at every status with all flags.
 
 use luddrisa_model::*;
 
@@ -198,6 +199,12 @@ fn spoil_words(run: &mut Run, ground: &Ground, action: &Action) -> Result<(), Di
         }
         spoilt[at] = ledger[at];
     }
+    // Every kind on an unsound ledger.
+    spoilt[HEAD_ZERO] = 1;
+    for kind in 0..=POST + 1 {
+        ground.act_on(run, &spoilt, &Action { kind, ..*action })?;
+    }
+    spoilt[HEAD_ZERO] = 0;
     // Base and hours at their common bound.
     for base in [END_HOUR - ledger[HOURS], END_HOUR - ledger[HOURS] + 1] {
         spoilt[BASE] = base;
@@ -251,6 +258,12 @@ fn spoil_action(run: &mut Run, ground: &Ground, action: &Action) -> Result<(), D
         for value in values(old, bound).into_iter().chain(3..18) {
             *fields_mut(&mut spoilt)[field] = value;
             ground.act(run, &spoilt)?;
+        }
+    }
+    // The ledger's own flags, with and without those of a submission.
+    for own in [APPROVED, GRANTED_GIVEN, OFFER_GIVEN, COUNTERED] {
+        for flags in own..=own + PRECONFIRMED + COORDINATED {
+            ground.act(run, &Action { flags, ..*action })?;
         }
     }
     // Two fields at once, one over their bound: which is told first?
@@ -478,6 +491,60 @@ fn reduction(
         assert_eq!(answer, Answer { number, reference: 1, before: 13, after: 13, moved });
     }
     assert_eq!(desk.ledger(), left, "{profile:?} of {available:?} and {reduced:?}");
+    Ok(())
+}
+
+/// Withdrawals and offers of a row at every status, with all flags and one over. What
+/// must come of them is worked out here once more, as far as the flags go.
+pub fn withdrawals(run: &mut Run) -> Result<(), Difference> {
+    for status in QUEUED..=RETRACTED {
+        for flags in 0..=MAX_FLAGS + 1 {
+            withdrawal(run, status, flags)
+                .and_then(|()| offers(run, status, flags))
+                .map_err(|told| format!("withdrawals at {status} with flags {flags}: {told}"))?;
+        }
+    }
+    Ok(())
+}
+
+/// An original without megawatts, at any status and with any flags.
+fn flagged_row(status: u32, flags: u32) -> Vec<u32> {
+    let mut ledger = one_row([0, 0], [0, 0]);
+    let row = Row::of(&ledger, 1);
+    row.set(&mut ledger, STATUS, status);
+    row.set(&mut ledger, FLAGS, flags);
+    ledger
+}
+
+fn withdrawal(run: &mut Run, status: u32, flags: u32) -> Result<(), Difference> {
+    let held = flags & PRECONFIRMED != 0 && flags & COUNTERED == 0;
+    let from: &[u32] = if held { &[6, 7, 11] } else { &[1, 3, 4, 6, 7, 8, 10, 11] };
+    let expected = match (flags, from.contains(&status)) {
+        (64.., _) => Answer::refused(BAD_LEDGER),
+        (_, true) => Answer { number: 0, reference: 1, before: status, after: 14, moved: 0 },
+        (_, false) => Answer::refused(BAD_MOVE),
+    };
+    let mut desk = Desk::new(&flagged_row(status, flags), &vec![0; posting_words(3)]);
+    let withdraw =
+        Action { kind: CUSTOMER_STATUS, actor: 10, reference: 1, status: WITHDRAWN, ..NO_KIND };
+    assert_eq!(run.act(&mut desk, &[], &withdraw)?, expected, "{status} with flags {flags}");
+    let left = if expected.number == 0 { WITHDRAWN } else { status };
+    assert_eq!(desk.ledger(), flagged_row(left, flags), "{status} with flags {flags}");
+    Ok(())
+}
+
+/// An offer notes that it was given, a counteroffer itself, and an acceptance that
+/// granted was given, by the copy at least.
+fn offers(run: &mut Run, status: u32, flags: u32) -> Result<(), Difference> {
+    for (offer, noted) in [(6, 16 | 32), (7, 16 | 32), (10, 16 | 8), (11, 16 | 8)] {
+        let mut desk = Desk::new(&flagged_row(status, flags), &vec![0; posting_words(3)]);
+        let action =
+            Action { kind: SELLER_STATUS, actor: 1, reference: 1, status: offer, ..NO_KIND };
+        let accepted = run.act(&mut desk, &[], &action)?.number == 0;
+        let left = Row::of(desk.ledger(), 1).get(desk.ledger(), FLAGS);
+        let expected = if accepted { flags | noted } else { flags };
+        assert_eq!(left, expected, "{offer} from {status} with flags {flags}");
+    }
     Ok(())
 }
 

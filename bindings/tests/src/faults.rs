@@ -300,6 +300,107 @@ fn at_most(ledger: &mut [u32], field: usize, most: u32) {
     }
 }
 
+// Withdrawals.
+
+/// Withdrawals judged in another way, by status and flags of the row.
+fn withdrawn_by(case: &Case, ledger: &mut [u32], answer: &mut Answer, may: fn(u32, u32) -> bool) {
+    let Action { kind, status, reference, .. } = *case.action;
+    let withdraws = kind == CUSTOMER_STATUS && status == WITHDRAWN;
+    if !withdraws || !matches!(answer.number, 0 | BAD_MOVE) {
+        return;
+    }
+    let row = Row::of(case.before, reference);
+    let before = row.get(case.before, STATUS);
+    if may(before, row.get(case.before, FLAGS)) {
+        row.set(ledger, STATUS, WITHDRAWN);
+        *answer = Answer { number: 0, reference, before, after: WITHDRAWN, moved: 0 };
+    } else {
+        refuse(case, ledger, answer, BAD_MOVE);
+    }
+}
+
+/// As the papers have it.
+fn may_withdraw(status: u32, flags: u32) -> bool {
+    is_open(status) && (!is_held(flags) || matches!(status, 6 | 7 | 11))
+}
+
+/// Preconfirmed and never countered.
+fn is_held(flags: u32) -> bool {
+    flags & PRECONFIRMED != 0 && flags & COUNTERED == 0
+}
+
+/// Preconfirmed and countered.
+fn is_released(flags: u32) -> bool {
+    flags & PRECONFIRMED != 0 && flags & COUNTERED != 0
+}
+
+fn is_countered(ledger: &[u32], row: Row) -> bool {
+    row.get(ledger, FLAGS) & COUNTERED != 0
+}
+
+fn set_countered(ledger: &mut [u32], row: Row, countered: bool) {
+    let flags = row.get(ledger, FLAGS) & !COUNTERED;
+    row.set(ledger, FLAGS, if countered { flags | COUNTERED } else { flags });
+}
+
+fn counters(case: &Case) -> bool {
+    let Action { kind, status, .. } = *case.action;
+    kind == SELLER_STATUS && matches!(status, COUNTEROFFER | CR_COUNTEROFFER)
+}
+
+/// An acceptance, also one that goes on to 13.
+fn accepts(case: &Case, answer: &Answer) -> bool {
+    offers(case, answer) && !counters(case)
+}
+
+/// An accepted counteroffer leaves flag 32 as it was, where a test of the row says so.
+fn unnoted(case: &Case, ledger: &mut [u32], answer: &Answer, test: fn(&[u32], Row) -> bool) {
+    let Some(row) = row_of(ledger, answer).filter(|_| counters(case)) else { return };
+    if test(ledger, row) {
+        set_countered(ledger, row, is_countered(case.before, row));
+    }
+}
+
+/// A counteroffer that is refused with one of the numbers sets flag 32.
+fn noted_nevertheless(case: &Case, ledger: &mut [u32], answer: &Answer, numbers: &[u32]) {
+    if counters(case) && numbers.contains(&answer.number) {
+        set_countered(ledger, Row::of(case.before, case.action.reference), true);
+    }
+}
+
+/// Clears flag 32 of an accepted action's row.
+fn forget_counteroffer(ledger: &mut [u32], answer: &Answer) {
+    if let Some(row) = row_of(ledger, answer) {
+        set_countered(ledger, row, false);
+    }
+}
+
+/// The action again, on a countered row that counts as not preconfirmed.
+fn counts_as_not_preconfirmed(case: &Case, ledger: &mut [u32], answer: &mut Answer) {
+    let row = Row::of(case.before, case.action.reference);
+    if is_countered(case.before, row) {
+        again(case, ledger, answer, |ledger, row| {
+            let flags = row.get(ledger, FLAGS);
+            row.set(ledger, FLAGS, flags & !PRECONFIRMED);
+        });
+        row.set(ledger, FLAGS, row.get(ledger, FLAGS) | PRECONFIRMED);
+    }
+}
+
+/// True where a used row was countered, and so has flags beyond 31.
+fn any_countered(ledger: &[u32]) -> bool {
+    used_rows(ledger).into_iter().any(|row| is_countered(ledger, row))
+}
+
+/// Flags of 64 put to 0.
+fn clear_64(ledger: &mut [u32]) {
+    for row in used_rows(ledger) {
+        if row.get(ledger, FLAGS) == MAX_FLAGS + 1 {
+            row.set(ledger, FLAGS, 0);
+        }
+    }
+}
+
 // Path limits.
 
 /// How many times a row's available is in the use of a path.
@@ -907,6 +1008,11 @@ pub const JUDGED_APART: Faulty = acting("judges the limits apart", |case, ledger
     }
 });
 
+/// No fault: withdrawals judged apart, which must agree with the model everywhere.
+pub const WITHDRAWN_APART: Faulty = acting("withdraws apart", |case, ledger, answer| {
+    withdrawn_by(case, ledger, answer, may_withdraw);
+});
+
 /// No fault: opening worked out apart, which must agree with the model everywhere.
 pub const OPENED_APART: Faulty =
     opening("opens apart", |ledger| opened(ledger, &Opening { ..OPENING }));
@@ -1356,6 +1462,119 @@ pub const FAULTS: &[Faulty] = &[
             });
         }
     }),
+    // Withdrawal after a rebid.
+    acting("does not let a countered row be withdrawn at 8", |case, ledger, answer| {
+        withdrawn_by(case, ledger, answer, |status, flags| {
+            may_withdraw(status, flags) && !(is_released(flags) && status == REBID)
+        });
+    }),
+    acting("does not let a countered row be withdrawn at 10", |case, ledger, answer| {
+        withdrawn_by(case, ledger, answer, |status, flags| {
+            may_withdraw(status, flags) && !(is_released(flags) && status == ACCEPTED)
+        });
+    }),
+    acting("does not let a countered row be withdrawn at 1, 3 and 4", |case, ledger, answer| {
+        withdrawn_by(case, ledger, answer, |status, flags| {
+            may_withdraw(status, flags) && !(is_released(flags) && status <= STUDY)
+        });
+    }),
+    acting("asks a counteroffer of a preconfirmed row at 11", |case, ledger, answer| {
+        withdrawn_by(case, ledger, answer, |status, flags| {
+            may_withdraw(status, flags) && !(is_held(flags) && status == CR_ACCEPTED)
+        });
+    }),
+    acting("asks flag 32 of a preconfirmed row at 6 and 7", |case, ledger, answer| {
+        withdrawn_by(case, ledger, answer, |status, flags| {
+            may_withdraw(status, flags) && !(is_held(flags) && status <= CR_COUNTEROFFER)
+        });
+    }),
+    acting("asks a counteroffer of rows that are not preconfirmed", |case, ledger, answer| {
+        withdrawn_by(case, ledger, answer, |status, flags| {
+            may_withdraw(status, flags) && flags & (PRECONFIRMED | COUNTERED) != 0
+        });
+    }),
+    acting("takes any offer for a counteroffer on withdrawal", |case, ledger, answer| {
+        withdrawn_by(case, ledger, answer, |status, flags| {
+            may_withdraw(status, flags) || is_open(status) && flags & OFFER_GIVEN != 0
+        });
+    }),
+    acting("takes every row at 8 for countered", |case, ledger, answer| {
+        withdrawn_by(case, ledger, answer, |status, flags| {
+            may_withdraw(status, flags) || status == REBID
+        });
+    }),
+    acting("withdraws a countered row from a closed status", |case, ledger, answer| {
+        withdrawn_by(case, ledger, answer, |status, flags| {
+            may_withdraw(status, flags) || flags & COUNTERED != 0
+        });
+    }),
+    acting("notes an acceptance as a counteroffer", |case, ledger, answer| {
+        let Some(row) = row_of(ledger, answer) else { return };
+        if accepts(case, answer) {
+            set_countered(ledger, row, true);
+        }
+    }),
+    acting("does not note a COUNTEROFFER", |case, ledger, answer| {
+        unnoted(case, ledger, answer, |ledger, row| row.get(ledger, STATUS) == COUNTEROFFER);
+    }),
+    acting("does not note a CR_COUNTEROFFER", |case, ledger, answer| {
+        unnoted(case, ledger, answer, |ledger, row| row.get(ledger, STATUS) == CR_COUNTEROFFER);
+    }),
+    acting("notes the counteroffers of preconfirmed rows alone", |case, ledger, answer| {
+        unnoted(case, ledger, answer, |ledger, row| row.get(ledger, FLAGS) & PRECONFIRMED == 0);
+    }),
+    acting("notes a counteroffer before its terms are looked at", |case, ledger, answer| {
+        noted_nevertheless(case, ledger, answer, &[BAD_PROFILE, BAD_TERMS]);
+    }),
+    acting("notes a counteroffer that is no move", |case, ledger, answer| {
+        noted_nevertheless(case, ledger, answer, &[BAD_MOVE]);
+    }),
+    acting("forgets a counteroffer on a rebid", |case, ledger, answer| {
+        if case.action.kind == CUSTOMER_STATUS && answer.after == REBID {
+            forget_counteroffer(ledger, answer);
+        }
+    }),
+    acting("forgets a counteroffer on acceptance", |case, ledger, answer| {
+        if accepts(case, answer) {
+            forget_counteroffer(ledger, answer);
+        }
+    }),
+    acting("forgets a counteroffer on approval", |case, ledger, answer| {
+        if case.action.kind == APPROVE {
+            forget_counteroffer(ledger, answer);
+        }
+    }),
+    acting("forgets a counteroffer on confirmation", |_, ledger, answer| {
+        if confirms(answer) {
+            forget_counteroffer(ledger, answer);
+        }
+    }),
+    acting("forgets a counteroffer on withdrawal", |_, ledger, answer| {
+        if answer.after == WITHDRAWN {
+            forget_counteroffer(ledger, answer);
+        }
+    }),
+    acting("does not confirm a countered row on acceptance", |case, ledger, answer| {
+        if case.action.kind == SELLER_STATUS && confirms(answer) {
+            counts_as_not_preconfirmed(case, ledger, answer);
+        }
+    }),
+    acting("retracts a countered row at its limit", |case, ledger, answer| {
+        if case.action.kind == LAPSE && confirms(answer) {
+            counts_as_not_preconfirmed(case, ledger, answer);
+        }
+    }),
+    acting("lets a submission bring flag 32", |case, ledger, answer| {
+        let Action { kind, flags, .. } = *case.action;
+        let brings = (COUNTERED..=COUNTERED + PRECONFIRMED + COORDINATED).contains(&flags);
+        if kind == SUBMIT && answer.number == BAD_FLAGS && brings {
+            let without = Action { flags: flags - COUNTERED, ..*case.action };
+            *answer = act(ledger, &mut case.postings.to_vec(), case.words, &without);
+            if let Some(row) = row_of(ledger, answer) {
+                set_countered(ledger, row, true);
+            }
+        }
+    }),
     // Soundness.
     acting("does not look at head word 7", |case, ledger, answer| {
         overlook(case, ledger, answer, |ledger| ledger[HEAD_ZERO] = 0);
@@ -1378,6 +1597,14 @@ pub const FAULTS: &[Faulty] = &[
     }),
     acting("does not look at the flags' bound", |case, ledger, answer| {
         overlook(case, ledger, answer, |ledger| at_most(ledger, FLAGS, MAX_FLAGS));
+    }),
+    acting("takes a countered row for unsound", |case, ledger, answer| {
+        if was_sound(case) && any_countered(case.before) {
+            refuse(case, ledger, answer, BAD_LEDGER);
+        }
+    }),
+    acting("takes flags of 64 for sound", |case, ledger, answer| {
+        overlook(case, ledger, answer, clear_64);
     }),
     acting("does not look at the limit's bound", |case, ledger, answer| {
         overlook(case, ledger, answer, |ledger| at_most(ledger, LIMIT, END_LIMIT - 1));
@@ -2105,6 +2332,17 @@ pub const FAULTS: &[Faulty] = &[
     }),
     opening("has no equations", |ledger| {
         opened(ledger, &Opening { tested: |_, _| false, ..OPENING })
+    }),
+    opening("does not open where a row was countered", |ledger| match Model.open(ledger) {
+        0 | UNBALANCED if any_countered(ledger) => BAD_LEDGER,
+        number => number,
+    }),
+    opening("opens with flags of 64", |ledger| {
+        let mut mended = ledger.to_vec();
+        if ledger.len() >= HEAD_WORDS {
+            clear_64(&mut mended);
+        }
+        Model.open(&mended)
     }),
     opening("tells 20 before 1", |ledger| {
         let mut mended = ledger.to_vec();

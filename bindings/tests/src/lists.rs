@@ -253,7 +253,9 @@ pub(crate) fn step(rng: &mut Rng, ledger: &[u32], words: &mut Words, reference: 
     };
     let unapproved =
         matches!(row.get(ledger, TYPE), PART_TRANSFER | FULL_TRANSFER) && flags & APPROVED == 0;
-    if unapproved && rng.chance(40) {
+    // Once countered, a preconfirmed row can be withdrawn, also a transfer that waits at 10.
+    let countered = flags & COUNTERED != 0;
+    if unapproved && rng.chance(if countered { 15 } else { 40 }) {
         return Action { kind: APPROVE, ..by_provider };
     }
     let die = rng.below(100);
@@ -261,7 +263,12 @@ pub(crate) fn step(rng: &mut Rng, ledger: &[u32], words: &mut Words, reference: 
         let status = rng.pick(&[INVALID, REFUSED, SUPERSEDED, DECLINED, ANNULLED]);
         return Action { status, ..by_seller };
     }
-    if die < 6 {
+    let withdrawn = match status {
+        _ if !countered => 6,
+        ACCEPTED if flags & PRECONFIRMED != 0 => 40,
+        _ => 12,
+    };
+    if die < withdrawn {
         // Its profile is not read.
         let length = rng.pick(&[0, 0, u32::MAX]);
         return Action { status: WITHDRAWN, length, ..by_customer };

@@ -99,6 +99,12 @@ pub enum Back {
 
 type Effect = (u32, Moved, u32, Back);
 
+/// The flags that a withdrawal looks at.
+const ASKED: u32 = PRECONFIRMED | COUNTERED;
+
+/// Rows by these flags.
+const BY_FLAGS: [u32; 4] = [0, PRECONFIRMED, COUNTERED, ASKED];
+
 /// What an action met in the reduced words of a row.
 #[derive(Clone, Copy, Debug, PartialEq, Eq, PartialOrd, Ord)]
 pub enum Reduced {
@@ -248,6 +254,10 @@ pub struct Reached {
     effects: BTreeSet<Effect>,
     /// Kind, what it would have done, and type of the rows refused with 22.
     over_posting: BTreeSet<(u32, Moved, u32)>,
+    /// Status and flags of a row whose customer withdraws it, and the number; how often.
+    withdrawn: BTreeMap<(u32, u32, u32), u64>,
+    /// Status that an accepted offer names, status before, and flags left.
+    offered: BTreeSet<(u32, u32, u32)>,
     /// What was met in reduced words, and type of the row; how often.
     reduced: BTreeMap<(Reduced, u32), u64>,
     calls: BTreeSet<(&'static str, u32)>,
@@ -295,6 +305,7 @@ impl Reached {
             let reqtype = Row::of(ledger, action.reference).get(ledger, TYPE);
             self.over_posting.insert((kind, moved, reqtype));
         }
+        self.note_flags(ledger, action, answer);
         if answer.number != 0 {
             return;
         }
@@ -331,6 +342,24 @@ impl Reached {
             let met =
                 if to_available { Reduced::BackToAvailable } else { Reduced::BackToDisplaced };
             self.met_if_reduced(ledger, above, met);
+        }
+    }
+
+    /// A withdrawal that was judged by status and flags, or an accepted offer.
+    fn note_flags(&mut self, ledger: &[u32], action: &Action, answer: &Answer) {
+        let flags = |row: Row| row.get(ledger, FLAGS) & ASKED;
+        match (action.kind, action.status, answer.number) {
+            (CUSTOMER_STATUS, WITHDRAWN, 0 | BAD_MOVE) => {
+                let row = Row::of(ledger, action.reference);
+                let refused = answer.number != 0;
+                let before = if refused { row.get(ledger, STATUS) } else { answer.before };
+                *self.withdrawn.entry((before, flags(row), answer.number)).or_default() += 1;
+            }
+            (SELLER_STATUS, offer @ (6 | 7 | 10 | 11), 0) => {
+                let left = flags(Row::of(ledger, action.reference));
+                self.offered.insert((offer, answer.before, left));
+            }
+            _ => (),
         }
     }
 
@@ -545,6 +574,12 @@ impl Reached {
         self.contested.iter().filter(|((what, _), _)| *what == ending).map(|(_, times)| times).sum()
     }
 
+    /// How often a withdrawal from a status, of rows with these of the flags 1 and 32, gave
+    /// a number.
+    pub fn times_withdrawn(&self, status: u32, flags: u32, number: u32) -> u64 {
+        self.withdrawn.get(&(status, flags, number)).copied().unwrap_or(0)
+    }
+
     /// How often opening gave a number.
     pub fn times_opened(&self, number: u32) -> u64 {
         self.opened.get(&number).copied().unwrap_or(0)
@@ -567,6 +602,14 @@ impl Reached {
                     Of::WordOverBound => " (word over 100,000)",
                 };
                 lines.push_str(&format!(" {number}{mark} × {times};"));
+            }
+            lines.push('\n');
+        }
+        for flags in BY_FLAGS {
+            lines.push_str(&format!("withdrawn with flags {flags}:"));
+            for (status, _, number) in listed_withdrawn().into_iter().filter(|met| met.1 == flags) {
+                let times = self.times_withdrawn(status, flags, number);
+                lines.push_str(&format!(" from {status} {number} × {times};"));
             }
             lines.push('\n');
         }
@@ -621,6 +664,9 @@ impl Reached {
         same("move (kind, before, after)", &listed_moves(), &self.moves)?;
         same("effect (kind, moved, type, given back)", &listed_effects(), &self.effects)?;
         same("22 (kind, moved, type)", &listed_over_posting(), &self.over_posting)?;
+        let withdrawn = self.withdrawn.keys().copied().collect();
+        same("withdrawal (before, flags, number)", &listed_withdrawn(), &withdrawn)?;
+        same("offer (named, before, flags left)", &listed_offered(), &self.offered)?;
         let reduced = self.reduced.keys().copied().collect();
         same("reduced words (what was met, type)", &listed_reduced(), &reduced)?;
         same("20", &FOUND.into(), &self.found.keys().copied().collect())?;
@@ -671,6 +717,38 @@ pub fn listed_over_posting() -> BTreeSet<(u32, Moved, u32)> {
     }
     for reqtype in [PART_TRANSFER, FULL_TRANSFER] {
         listed.insert((APPROVE, Moved::Confirmed, reqtype));
+    }
+    listed
+}
+
+/// From any open status, but of preconfirmed rows that were never countered from 6, 7 and
+/// 11 alone. On foreign ledgers any row has any flags.
+pub fn listed_withdrawn() -> BTreeSet<(u32, u32, u32)> {
+    let mut listed = BTreeSet::new();
+    for flags in BY_FLAGS {
+        let from: &[u32] = if flags == PRECONFIRMED { &[6, 7, 11] } else { &OPEN };
+        for status in QUEUED..=RETRACTED {
+            let number = if from.contains(&status) { 0 } else { BAD_MOVE };
+            listed.insert((status, flags, number));
+        }
+    }
+    listed
+}
+
+/// A counteroffer leaves flag 32 in every row, an acceptance only where it was.
+pub fn listed_offered() -> BTreeSet<(u32, u32, u32)> {
+    let mut listed = BTreeSet::new();
+    for flags in BY_FLAGS {
+        for &(_, offer, befores) in MOVES.iter().filter(|mv| mv.0 == SELLER_STATUS) {
+            let is_listed = match offer {
+                6 | 7 => flags & COUNTERED != 0,
+                10 | 11 => true,
+                _ => false,
+            };
+            if is_listed {
+                listed.extend(befores.iter().map(|&before| (offer, before, flags)));
+            }
+        }
     }
     listed
 }
@@ -781,6 +859,10 @@ mod tests {
         assert_eq!(listed_effects().len(), 3 * 9 + 2 + 7 + 7 + 2 + 5 * 2);
         assert_eq!(listed_over_posting().len(), 3 * 8 + 7 + 2);
         assert_eq!(listed_reduced().len(), 8 * 7 + 8 + 2 * 6);
+        assert_eq!(listed_withdrawn().len(), 4 * 17);
+        let accepted = listed_withdrawn().into_iter().filter(|&(_, _, number)| number == 0);
+        assert_eq!(accepted.count(), 3 * 8 + 3);
+        assert_eq!(listed_offered().len(), 2 * 6 * 2 + 2 * 4 * 4);
         // Of the endings 4 find no row, 2 meet all types, 1 a record; 5 types may not be firm.
         assert_eq!(listed_contested().len(), 4 + 2 * 8 + 1 + 5 + 13 * 5);
         // Of the obstacles 2 come before any step, 1 finds no row, 1 is never first; 2 meet
@@ -797,6 +879,9 @@ mod tests {
         reached.moves = listed_moves();
         reached.effects = listed_effects();
         reached.over_posting = listed_over_posting();
+        let all_withdrawn = || listed_withdrawn().into_iter().map(|met| (met, 1)).collect();
+        reached.withdrawn = all_withdrawn();
+        reached.offered = listed_offered();
         let all_met = || listed_reduced().into_iter().map(|met| (met, 1)).collect();
         reached.reduced = all_met();
         reached.calls = listed_calls();
@@ -847,6 +932,18 @@ mod tests {
         reached.over_posting.remove(&(APPROVE, Moved::Confirmed, FULL_TRANSFER));
         assert!(reached.check().unwrap_err().contains("(4, Confirmed, 7)"));
         reached.over_posting = listed_over_posting();
+        reached.withdrawn.remove(&(REBID, ASKED, 0));
+        assert!(reached.check().unwrap_err().contains("never reached [(8, 33, 0)]"));
+        reached.withdrawn = all_withdrawn();
+        reached.withdrawn.insert((REBID, PRECONFIRMED, 0), 1);
+        assert!(reached.check().unwrap_err().contains("not in the paper [(8, 1, 0)]"));
+        reached.withdrawn = all_withdrawn();
+        reached.offered.remove(&(COUNTEROFFER, CR_ACCEPTED, COUNTERED));
+        assert!(reached.check().unwrap_err().contains("never reached [(6, 11, 32)]"));
+        reached.offered = listed_offered();
+        reached.offered.insert((CR_COUNTEROFFER, QUEUED, PRECONFIRMED));
+        assert!(reached.check().unwrap_err().contains("not in the paper [(7, 1, 1)]"));
+        reached.offered = listed_offered();
         reached.reduced.remove(&(Reduced::NoMoreAtBound, RESALE));
         assert!(reached.check().unwrap_err().contains("never reached [(NoMoreAtBound, 3)]"));
         reached.reduced = all_met();

@@ -4,9 +4,9 @@
 use std::io::Write;
 use std::time::Instant;
 
-use luddrisa_model::{BAD_LEDGER, UNBALANCED};
+use luddrisa_model::{BAD_LEDGER, COUNTERED, PRECONFIRMED, UNBALANCED};
 use luddrisa_tests::faults::{
-    Faulty, CONTESTED_APART, FAULTS, JUDGED_APART, OPENED_APART, UNWOUND_APART,
+    Faulty, CONTESTED_APART, FAULTS, JUDGED_APART, OPENED_APART, UNWOUND_APART, WITHDRAWN_APART,
 };
 use luddrisa_tests::plays::Ending;
 use luddrisa_tests::reached::{FOUND, IN_ORDER};
@@ -39,6 +39,7 @@ fn everything(run: &mut Run, seed: u64, scale: u32) -> Result<(), Difference> {
     dense::dense(run, seed, 100 * scale)?;
     edges::edges(run, seed, 2 * scale)?;
     edges::reductions(run)?;
+    edges::withdrawals(run)?;
     batches::batches(run, seed, 4 * scale)?;
     stamps::stamps(run, seed, 200 * scale)?;
     openings::openings(run, seed, 10 * scale)?;
@@ -84,6 +85,12 @@ fn all_agree_and_every_pair_is_reached() {
 #[test]
 fn limits_judged_apart_agree_with_the_model() {
     expect_agreement(everything(&mut Run::new(&JUDGED_APART), SEED, 40));
+}
+
+/// Withdrawals judged a second time, by status and flags alone.
+#[test]
+fn withdrawals_judged_apart_agree_with_the_model() {
+    expect_agreement(everything(&mut Run::new(&WITHDRAWN_APART), SEED, 16));
 }
 
 /// Opening worked out a second time, from what each row should still hold.
@@ -267,7 +274,7 @@ fn planted_faults_are_caught() {
         }
     }
     assert!(missed.is_empty(), "not caught: {missed:?}");
-    assert!(FAULTS.len() > 390, "only {}", FAULTS.len());
+    assert!(FAULTS.len() > 415, "only {}", FAULTS.len());
 }
 
 /// No other generator is needed to find a fault in contests.
@@ -393,7 +400,7 @@ fn opening_alone_catches_lost_megawatts() {
 #[test]
 fn the_limits_alone_catch_overuse() {
     let lists = |subject: &dyn Rules| {
-        (SEED..SEED + 800).find_map(|seed| lists::limits_of(subject, seed).err())
+        (SEED..SEED + 2_400).find_map(|seed| lists::limits_of(subject, seed).err())
     };
     expect_agreement(lists(SUBJECT).map_or(Ok(()), Err));
     let overused: Vec<_> = FAULTS.iter().filter(|faulty| faulty.overused).collect();
@@ -537,6 +544,44 @@ fn lists_keep_what_was_reduced() {
     }
     for never in [Over, Confirmed, Annulled] {
         assert_eq!(times(never), 0, "{never:?}");
+    }
+}
+
+/// Lists withdraw rows that were countered, also preconfirmed ones after a rebid and
+/// transfers that wait at 10. On none of them is a row countered before its first offer,
+/// or never countered at 6, 7 or 8.
+#[test]
+fn lists_withdraw_countered_rows() {
+    const BOTH: u32 = PRECONFIRMED | COUNTERED;
+    let mut run = Run::new(SUBJECT);
+    expect_agreement(lists::lists(&mut run, SEED, 1_500));
+    let times = |status, flags, number| run.reached.times_withdrawn(status, flags, number);
+    for (status, flags, number, least) in [
+        (6, BOTH, 0, 100),
+        (7, BOTH, 0, 50),
+        (8, BOTH, 0, 100),
+        (10, BOTH, 0, 10),
+        (11, BOTH, 0, 10),
+        (1, PRECONFIRMED, 11, 500),
+        (3, PRECONFIRMED, 11, 10),
+        (4, PRECONFIRMED, 11, 10),
+        (10, PRECONFIRMED, 11, 10),
+        (11, PRECONFIRMED, 0, 50),
+        (8, COUNTERED, 0, 50),
+    ] {
+        let times = times(status, flags, number);
+        println!("from {status} with flags {flags}, {number} × {times}");
+        assert!(times >= least, "{status} with flags {flags} only {times} times");
+    }
+    for preconfirmed in [0, PRECONFIRMED] {
+        for number in [0, 11] {
+            for status in [1, 3, 4] {
+                assert_eq!(times(status, preconfirmed | COUNTERED, number), 0, "{status}");
+            }
+            for status in [6, 7, 8] {
+                assert_eq!(times(status, preconfirmed, number), 0, "{status}");
+            }
+        }
     }
 }
 

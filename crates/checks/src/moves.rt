@@ -9,6 +9,7 @@ use layout::numbers::ACCEPTED;
 use layout::numbers::ANNULLED;
 use layout::numbers::CONFIRMED;
 use layout::numbers::COORDINATED;
+use layout::numbers::COUNTERED;
 use layout::numbers::COUNTEROFFER;
 use layout::numbers::CR_ACCEPTED;
 use layout::numbers::CR_COUNTEROFFER;
@@ -34,11 +35,11 @@ const EARLY: u32 = 1 << QUEUED | 1 << RECEIVED | 1 << STUDY;
 
 const ASKED: u32 = EARLY | 1 << REBID;
 
-const COUNTERED: u32 = 1 << COUNTEROFFER | 1 << CR_COUNTEROFFER;
+const COUNTEROFFERS: u32 = 1 << COUNTEROFFER | 1 << CR_COUNTEROFFER;
 
 const TAKEN: u32 = 1 << ACCEPTED | 1 << CR_ACCEPTED;
 
-pub const OPEN: u32 = ASKED | COUNTERED | TAKEN;
+pub const OPEN: u32 = ASKED | COUNTEROFFERS | TAKEN;
 
 // A number over 17 is no status.
 pub fn is_in(status: u32, set: u32) -> bool
@@ -76,15 +77,15 @@ pub fn seller_may(
     }
 }
 
-pub fn customer_may(new: u32, status: u32, preconfirmed: bool) -> bool
-    ensures { λ b. ⌜ b ≡ allowed (customerMoves preconfirmed) new status ⌝ }
+pub fn customer_may(new: u32, status: u32, preconfirmed: bool, countered: bool) -> bool
+    ensures { λ b. ⌜ b ≡ allowed (customerMoves preconfirmed countered) new status ⌝ }
 {
     match new {
-        REBID => is_in(status, COUNTERED),
-        CONFIRMED => is_in(status, COUNTERED | TAKEN),
+        REBID => is_in(status, COUNTEROFFERS),
+        CONFIRMED => is_in(status, COUNTEROFFERS | TAKEN),
         WITHDRAWN => {
-            is_in(status, OPEN) & !preconfirmed
-                | is_in(status, COUNTERED | 1 << CR_ACCEPTED) & preconfirmed
+            is_in(status, OPEN) & (!preconfirmed | countered)
+                | is_in(status, COUNTEROFFERS | 1 << CR_ACCEPTED) & preconfirmed
         }
         _ => false,
     }
@@ -113,5 +114,6 @@ pub fn customer_may_row(l: &[u32], rows: usize, hours: usize, n: usize, new: u32
     let status = layout::rows::word_at(l, rows, hours, n, STATUS);
     let flags = layout::rows::word_at(l, rows, hours, n, FLAGS);
     let preconfirmed = layout::rows::has_flag(flags, PRECONFIRMED);
-    customer_may(new, status, preconfirmed)
+    let countered = layout::rows::has_flag(flags, COUNTERED);
+    customer_may(new, status, preconfirmed, countered)
 }

@@ -26,7 +26,7 @@ pub const MOST_TYPE: u32 = 8;
 
 pub const MOST_STATUS: u32 = 17;
 
-pub const MOST_FLAGS: u32 = 31;
+pub const MOST_FLAGS: u32 = 63;
 
 pub const MOST_PATH: u32 = 64;
 
@@ -88,6 +88,9 @@ pub const APPROVED: u32 = 4;
 pub const GRANTED_GIVEN: u32 = 8;
 
 pub const OFFER_GIVEN: u32 = 16;
+
+// The row was ever at 6 or 7.
+pub const COUNTERED: u32 = 32;
 
 // Profiles of a row, in order.
 pub const REQUESTED_PART: usize = 0;

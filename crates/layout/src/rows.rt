@@ -4,7 +4,7 @@ ghost use mathlib.Core.Bool.{true};
 ghost use Prim.Native.Nat.{_+_, _<_, _≤_};
 ghost use lib.ListN.{length, getD, set};
 ghost use Rattle.words.specs.Lists.{covered, equal, roomy, mostWord};
-ghost use Rattle.rules.specs.Numbers.{rowWords, profiles, mostRows, mostHours, mostMegawatts, mostFlags, offerGiven};
+ghost use Rattle.rules.specs.Numbers.{rowWords, profiles, mostRows, mostHours, mostMegawatts, mostFlags, countered};
 ghost use Rattle.rules.specs.Layout.{Sized, row, onRow, hoursOf, setHours, addHours, lessHours, clearHours, hasFlag, flagged, rowSize};
 ghost use Rattle.rules.proofs.Seen.{Room};
 ghost use Rattle.layout.specs.Places.{RowAt, HoursAt};
@@ -56,7 +56,7 @@ pub fn has_flag(flags: u32, flag: u32) -> bool
 }
 
 pub fn flag_raised(flags: u32, flag: u32) -> u32
-    requires { ⌜ (1 ≤ flag) × (flag ≤ offerGiven) × (flags ≤ mostFlags) ⌝ }
+    requires { ⌜ (1 ≤ flag) × (flag ≤ countered) × (flags ≤ mostFlags) ⌝ }
     ensures { λ r. ⌜ r ≡ flagged flag flags ⌝ }
 {
     if has_flag(flags, flag) {

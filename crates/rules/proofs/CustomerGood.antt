@@ -30,7 +30,8 @@ use Rattle.rules.proofs.Unmoved.{unmoved-bidden}
 use Rattle.rules.proofs.Before.{unconfirmed-stays, short-stays}
 use Rattle.rules.proofs.Kept.{Same, same-self, same-status, same-bidden, fitting-profile}
 use Rattle.rules.proofs.TallyLaws.{fed-red, fed-quiet}
-use Rattle.rules.proofs.Entries.{force-length, bid-unsettled, status-agrees, bidden-start, bidden-agrees, bidden-confirms}
+use Rattle.rules.proofs.Forces.{force-length}
+use Rattle.rules.proofs.Entries.{bid-unsettled, status-agrees, bidden-start, bidden-agrees, bidden-confirms}
 use Rattle.rules.proofs.Good.{Agrees, Good}
 use Rattle.rules.proofs.Keeping.{stepped}
 use Rattle.rules.proofs.Tests.{Left}
@@ -105,7 +106,7 @@ module _ {B : ℕ → ℕ → ℕ} {l : List ℕ} {t : Tally} (G : Good B l t) (
         let C = confirm-passed H l n mw (has approved r) (Q .confirms c) in
         let E = own-agrees G a (P .reference .0) (P .reference .1) w A later in
         let m = spanned G a (P .reference .0) (P .reference .1) in
-        let long : length mw ≡ spanHours r = force-length E m in
+        let long : length mw ≡ spanHours r = force-length m in
         let long1 : length mw ≡ spanHours q = omega (arith, long, same .start, same .stop) in
         let now = ready-status G lt Y mw long1 (record { long = same .long; fits = omega (arith, long, same .start, m .starts, m .stops) }) in
         let u = unmoved-bidden {r = namedRow (hours l) l a} (m .long) w a (λ c. omega (arith, fits c, m .starts, m .stops)) in

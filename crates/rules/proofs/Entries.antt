@@ -30,7 +30,7 @@ use Rattle.rules.proofs.Good.{Agrees}
 use Rattle.rules.proofs.Passed.{ProfilePassed, profile-length, SubmitPassed, is-one, last-one, or-none, or-some, seller-move}
 use Rattle.rules.proofs.TallyLaws.{Like}
 use Rattle.rules.proofs.Spans.{Spanned, span-length, span-kin, hour-standing}
-use Rattle.rules.proofs.Forces.{granted-comes, granted-stays, accepted-grants}
+use Rattle.rules.proofs.Forces.{force-length, granted-comes, granted-stays, granted-length, accepted-grants}
 use Rattle.rules.proofs.Shown.{Shown, shown-aside, shown-status, shown-approved, shown-requested, shown-held, shown-emptied, shown-reduced, shown-displaced, shown-annulled, shown-bidden, shown-rebidden, shown-offered, shown-granted}
 
 -- statuses that settle what is granted; and the others
@@ -57,14 +57,6 @@ module _ {H : ℕ} {r : List ℕ} {e : Entry} (A : Agrees H r e) (m : Spanned H 
     flag = refl;
     ungiven = A .ungiven;
   }
-
-  pub force-length : length (inForce H r) ≡ spanHours r
-  unfolding inForce
-  force-length = go (has grantedGiven r)
-    where
-      go : (b : Bool) → length (pick b (granted H r) (requested H r)) ≡ spanHours r
-      go true = span-length m grantedPart (lit< tt)
-      go false = span-length m requestedPart (lit< tt)
 
   pub force-some : zeros (inForce H r) ≡ false
   unfolding inForce
@@ -251,8 +243,8 @@ module _ {H : ℕ} {r : List ℕ} {e : Entry} (A : Agrees H r e) (m : Spanned H 
       → Agrees H (held H s (inForce H r) q) (changed a w answer e) × Agrees H (emptied H s (inForce H r) q) (changed a w answer e)
   forced {q} S s z f x some same k =
       subst (λ (i : ℕ). Agrees H (held H i (inForce H r) q) (changed a w answer e) × Agrees H (emptied H i (inForce H r) q) (changed a w answer e)) (sym z) (
-        force-agrees A m a w answer (shown-held S (inForce H r) (force-length A m)) f (inr (inr refl)) x some same y,
-        force-agrees A m a w answer (shown-emptied S (inForce H r) (force-length A m)) f (inr (inr refl)) x some same y,
+        force-agrees A m a w answer (shown-held S (inForce H r) (force-length m)) f (inr (inr refl)) x some same y,
+        force-agrees A m a w answer (shown-emptied S (inForce H r) (force-length m)) f (inr (inr refl)) x some same y,
       )
     where
       y : grantedBy a w e ≡ e .granted
@@ -313,7 +305,7 @@ module _ {H : ℕ} {r : List ℕ} {e : Entry} (A : Agrees H r e) (m : Spanned H 
     where
       go : (b : Bool) → comes a ≡ b → Agrees H (held H s (inForce H r) (bidden H w a r)) (changed a w answer e) × Agrees H (emptied H s (inForce H r) (bidden H w a r)) (changed a w answer e)
       go true c =
-          let q : profile w a ≡ inForce H r = equal-lists (profile w a) (inForce H r) (profile-length (came c) ∙ sym (force-length A m)) (ap (λ (v : List ℕ). equal v (inForce H r)) (sym (requested-comes H w a r c)) ∙ bid-equal H w a r fit) in
+          let q : profile w a ≡ inForce H r = equal-lists (profile w a) (inForce H r) (profile-length (came c) ∙ sym (force-length m)) (ap (λ (v : List ℕ). equal v (inForce H r)) (sym (requested-comes H w a r c)) ∙ bid-equal H w a r fit) in
           forced A m a w answer (shown-rebidden (shown A m) w a c (profile-length (came c))) s z f (requested-new a w e kind bid c) (came c .some) (λ _. q) (λ y. omega arith)
       go false c =
           forced A m a w answer (shown-bidden (shown A m) w a c) s z f (requested-kept a w e (inr (inr c)) ∙ A .same-requested) (A .asked) (in-force A m a w answer) (λ y. omega arith)
@@ -326,11 +318,7 @@ goes-on a r f = eqb-true _ _ (and-left (eqb (a .status) ACCEPTED) _ f)
 module _ {H : ℕ} {r : List ℕ} {e : Entry} (A : Agrees H r e) (m : Spanned H r) (a : Action) (w : List ℕ) (answer : Answer)
     (kind : a .kind ≡ 2) (offer : offers a ≡ true) (came : comes a ≡ true → ProfilePassed w a (spanHours r)) where
   pub after-length : length (grantedAfter H w a r) ≡ spanHours r
-  after-length = go (comes a) refl
-    where
-      go : (b : Bool) → comes a ≡ b → length (grantedAfter H w a r) ≡ spanHours r
-      go true c = ap length (granted-comes H w a r c) ∙ profile-length (came c)
-      go false c = ap length (granted-stays H w a r c) ∙ force-length A m
+  after-length = granted-length m w a came
 
   kept : requestedBy a w e ≡ e .requested
   kept = requested-kept a w e (inl (λ z. omega arith))

@@ -3,9 +3,9 @@ use mathlib.Core.Path.{_≡_, refl, sym, ap, _∙_, subst}
 use mathlib.Core.Logic.{_≢_, _⊎_, ⊎-elim, inl, inr}
 use mathlib.Core.Bool.{Bool, true, false, _||_}
 use mathlib.Core.List.{List}
-use Prim.Native.Nat.{ℕ, _+_, _-_, _/_, _%_, _≤_, _<_}
+use Prim.Native.Nat.{ℕ, suc, _+_, _-_, _*_, _/_, _%_, _≤_, _<_}
 use native.Mathlib.Decide.{ℕ-discrete}
-use native.Mathlib.Nat.{mod-lt, div-add-mod', div-lt-iff-lt-mul}
+use native.Mathlib.Nat.{mod-lt, div-add-mod', div-lt-iff-lt-mul, add-div-right}
 use native.Mathlib.Omega.{arith}
 use borrow.Author.Tests.{eqb-false}
 use lib.Dec.{eqb, lit<}
@@ -14,12 +14,12 @@ use lib.Seq.{getD-set-same, getD-set-other}
 use Rattle.words.specs.Lists.{zip2, noughts, within}
 use Rattle.words.proofs.Laws.{lt-or-le, part-at, within-at, within-all, noughts-length, noughts-at}
 use Rattle.rules.specs.Pick.{pick}
-use Rattle.rules.specs.Numbers.{headWords, rowWords, profiles, mostStatus, mostFlags, mostPrice, mostMegawatts, endSecond, endLimit, approved, grantedGiven, offerGiven, requestedPart, grantedPart, availablePart, displacedPart, reducedPart, RELINQUISH}
+use Rattle.rules.specs.Numbers.{headWords, rowWords, profiles, mostStatus, mostFlags, mostPrice, mostMegawatts, endSecond, endLimit, approved, grantedGiven, offerGiven, countered, requestedPart, grantedPart, availablePart, displacedPart, reducedPart, RELINQUISH}
 use Rattle.rules.specs.Layout.{rows, hours, used, rowBase, rowSize, row, onRow, reqtype, status, related, start, stop, flags, bid, offer, limit, relatedRow, hasFlag, flagged, hourAt, hoursOf, spanHours, span, requested, granted, available, has, raise, setStatus, setBid, setOffer, setLimit, setHours, addHours, lessHours, clearHours, Sized}
 use Rattle.rules.specs.Megawatts.{inForce, grant, takeFrom, displacedRow, displace, annulledRow, annul, reducedRow, reduce}
 use Rattle.rules.specs.Confirming.{held, emptied, confirm}
 use Rattle.rules.specs.Checks.{profile, comes}
-use Rattle.rules.specs.SellerStatus.{accepts, grantedAfter, offered}
+use Rattle.rules.specs.SellerStatus.{accepts, grantedAfter, entered, offered}
 use Rattle.rules.specs.CustomerStatus.{bidden}
 use Rattle.rules.specs.declared.Action.{Action}
 use Rattle.rules.proofs.Seen.{Room, set-length}
@@ -275,22 +275,20 @@ module _ {H : ℕ} {r q : List ℕ} (o : Same H r q) {k v : ℕ} (s : Stores k v
       stops : getD (set q k v) 6 0 ≡ stop q
       stops = kept 6 (inl (inr (omega arith, omega arith)))
 
--- flags stay at most 31: a flag that is not there is added
-pub flagged-most : (word : ℕ) → word ≤ mostFlags → (flagged approved word ≤ mostFlags) × (flagged grantedGiven word ≤ mostFlags) × (flagged offerGiven word ≤ mostFlags)
+-- flags stay at most 63, which is one below a multiple of twice each flag: a flag is added only where it is not there
+pub flagged-most : (flag k word : ℕ) → 0 < flag → k * 2 * flag ≡ suc mostFlags → word ≤ mostFlags → flagged flag word ≤ mostFlags
 unfolding flagged hasFlag
-flagged-most word most = (four (eqb (word / 4 % 2) 1) refl, eight (eqb (word / 8 % 2) 1) refl, sixteen (eqb (word / 16 % 2) 1) refl)
+flagged-most flag k word pos e most = go (eqb (word / flag % 2) 1) refl
   where
-    four : (b : Bool) → eqb (word / 4 % 2) 1 ≡ b → pick b word (word + 4) ≤ mostFlags
-    four true e = most
-    four false e = let ne : word / 4 % 2 ≢ 1 = eqb-false _ _ e in omega arith
+    below : word / flag < k * 2
+    below = div-lt-iff-lt-mul pos .1 (omega (arith, e, most))
 
-    eight : (b : Bool) → eqb (word / 8 % 2) 1 ≡ b → pick b word (word + 8) ≤ mostFlags
-    eight true e = most
-    eight false e = let ne : word / 8 % 2 ≢ 1 = eqb-false _ _ e in omega arith
-
-    sixteen : (b : Bool) → eqb (word / 16 % 2) 1 ≡ b → pick b word (word + 16) ≤ mostFlags
-    sixteen true e = most
-    sixteen false e = let ne : word / 16 % 2 ≢ 1 = eqb-false _ _ e in omega arith
+    go : (b : Bool) → eqb (word / flag % 2) 1 ≡ b → pick b word (word + flag) ≤ mostFlags
+    go true o = most
+    go false o =
+        let odd : word / flag % 2 ≢ 1 = eqb-false _ _ o in
+        let next : (word + flag) / flag < k * 2 = omega (arith, below, add-div-right word pos) in
+        omega (arith, e, div-lt-iff-lt-mul {k = flag} {x = word + flag} {y = k * 2} pos .0 next)
 
 stores-status : {s : ℕ} → 1 ≤ s → s ≤ mostStatus → Stores 1 s
 stores-status a b = record {
@@ -368,14 +366,20 @@ module _ {H : ℕ} {r q : List ℕ} (o : Same H r q) where
   pub same-limit : {t : ℕ} → t < endLimit → Same H r (setLimit t q)
   same-limit a = same-set o (stores-limit a)
 
+  same-raise : {flag : ℕ} (k : ℕ) → 0 < flag → k * 2 * flag ≡ suc mostFlags → Same H r (raise flag q)
+  same-raise {flag} k pos e = same-flags (flagged-most flag k (flags q) pos e (o .words .flags))
+
   pub same-approved : Same H r (raise approved q)
-  same-approved = same-flags (flagged-most (flags q) (o .words .flags) .0)
+  same-approved = same-raise 8 (lit< tt) refl
 
   pub same-granted-given : Same H r (raise grantedGiven q)
-  same-granted-given = same-flags (flagged-most (flags q) (o .words .flags) .1)
+  same-granted-given = same-raise 4 (lit< tt) refl
 
   pub same-offer-given : Same H r (raise offerGiven q)
-  same-offer-given = same-flags (flagged-most (flags q) (o .words .flags) .2)
+  same-offer-given = same-raise 2 (lit< tt) refl
+
+  pub same-countered : Same H r (raise countered q)
+  same-countered = same-raise 1 (lit< tt) refl
 
   -- hours of a profile inside the span; those of requested and granted within their bound
   pub same-hours : (p s : ℕ) (v : List ℕ) → p < profiles → start q ≤ s → s + length v ≤ stop q → (p < availablePart → (k : ℕ) → k < length v → getD v k 0 ≤ mostMegawatts) → Same H r (setHours H p s v q)
@@ -474,17 +478,30 @@ same-when : {H : ℕ} {r q : List ℕ} (f : List ℕ → List ℕ) (b : Bool) �
 same-when f true o s = s refl
 same-when f false o s = o
 
+same-entered : {H : ℕ} {r q : List ℕ} → Same H r q → (b : Bool) {s : ℕ} → 1 ≤ s → s ≤ mostStatus → Same H r (entered b s q)
+unfolding entered
+same-entered o b = same-status (same-when (raise countered) b o (λ _. same-countered o))
+
 -- a row with an offer, and its flag
 pub words-priced : {H : ℕ} {r : List ℕ} → length r ≡ rowSize H → SoundWords H r → {p : ℕ} → p ≤ mostPrice → SoundWords H (raise offerGiven (setOffer p r))
 words-priced {H} {r} long w {p} most =
     let o = words-set long w (stores-offer most) in
-    words-set (length-set r 9 p ∙ long) o (stores-flags (flagged-most (flags (setOffer p r)) (o .flags) .2))
+    words-set (length-set r 9 p ∙ long) o (stores-flags (flagged-most offerGiven 2 (flags (setOffer p r)) (lit< tt) refl (o .flags)))
+
+-- and one that is granted
+pub words-granted : {H : ℕ} {r : List ℕ} → length r ≡ rowSize H → SoundWords H r → (s : ℕ) (mw : List ℕ) → s + length mw ≤ H → SoundWords H (grant H s mw r)
+unfolding grant
+words-granted {H} {r} long w s mw fits =
+    let m : Room H s mw r = record { long = long; fits = fits } in
+    let o : SoundWords H (setHours H grantedPart s mw r) = words-same (λ k lt. written-field m {p = grantedPart} (lit< tt) k lt) w in
+    words-set (set-length m {p = grantedPart} (lit< tt)) o (stores-flags (flagged-most grantedGiven 4 (flags (setHours H grantedPart s mw r)) (lit< tt) refl (o .flags)))
 
 pub same-offered : {H : ℕ} {r : List ℕ} → Same H r r → (expires : ℕ) → expires < endLimit → (a : Action) → a .price ≤ mostPrice → 1 ≤ a .status → a .status ≤ mostStatus → {mw : List ℕ} → Fitting mw r → Same H r (offered H expires a mw r)
 unfolding offered
 same-offered {H} {r} o expires e a p s t {mw} f =
     let offers = same-offer-given (same-offer o p) in
-    same-status (same-limit (same-when (grant H (start r) mw) (comes a || accepts a) offers (λ _. same-grant offers f)) e) s t
+    let limits = same-limit (same-when (grant H (start r) mw) (comes a || accepts a) offers (λ _. same-grant offers f)) e in
+    same-entered limits _ s t
 
 pub same-bidden : {H : ℕ} {r : List ℕ} → Same H r r → (w : List ℕ) (a : Action) → a .price ≤ mostPrice → (comes a ≡ true → Fitting (profile w a) r) → Same H r (bidden H w a r)
 unfolding bidden

@@ -73,3 +73,4 @@ pub mod Unwinding
 pub mod Annulments
 pub mod Listed
 pub mod Annulled
+pub mod Countered

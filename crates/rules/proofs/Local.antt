@@ -153,7 +153,7 @@ module _ {K : ℕ → Bool} {R H : ℕ} {l m : List ℕ} (w : List ℕ) (a : Act
   approve-wrote : Wrote K R H l m (approveAfter H l a) (approveAfter H m a)
   unfolding approveAfter
   approve-wrote =
-      let W : Wrote K R H l m (onRow H (named a) (raise approved) l) (onRow H (named a) (raise approved) m) = own-wrote G X (raise approved) (λ t. lasting-raise (t .long) approved) in
+      let W : Wrote K R H l m (onRow H (named a) (raise approved) l) (onRow H (named a) (raise approved) m) = own-wrote G X (raise approved) (λ t. lasting-raise (t .long) approved 4 (lit< tt) refl) in
       rw (← same-row G X)
       (choose (waitsAt ACCEPTED (namedRow H l a)) (λ g. then-confirm G X W (inForce H (namedRow H l a)) force-fits) (λ g. W))
 

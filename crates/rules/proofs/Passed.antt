@@ -596,38 +596,41 @@ seller-move r new e =
       others = λ x y. let f = and-both _ _ (simp (ne-eqb new 15 x, ne-eqb new 16 y) at t) in (off-facts _ (f .0), off-facts _ (f .1));
     }
 
--- the customer's: from a status that is neither 13 nor 15 to 8, 13 or 14; to 8 and 13 from an offer
-customerFits : ℕ → ℕ → Bool
-customerFits new old = off old && (new among (8 ∷ 13 ∷ 14 ∷ []))
-
-customer-fits : (pre : Bool) → allFit customerFits (customerMoves pre) ≡ true
-unfolding allFit fits every customerFits customerMoves off
-customer-fits true = refl
-customer-fits false = refl
-
-pub record CustomerMove (r : List ℕ) (new : ℕ) : Type 0 where
-  pub before : Off (status r)
-  pub after : (new ≡ 8) ⊎ ((new ≡ 13) ⊎ (new ≡ 14))
-
-customer-test : (r : List ℕ) (new : ℕ) → customerMay r new ≡ true → customerFits new (status r) ≡ true
-unfolding customerMay
-customer-test r new e = allowed-fits customerFits _ new (status r) (customer-fits (has preconfirmed r)) e
-
-pub customer-move : (r : List ℕ) (new : ℕ) → customerMay r new ≡ true → CustomerMove r new
-unfolding customerFits
-customer-move r new e =
-    let t = and-both (off (status r)) _ (customer-test r new e) in
-    record {
-      before = off-facts (status r) (t .0);
-      after = ⊎-elim (λ x. inl x) (λ x. inr (⊎-elim (λ y. inl y) (λ y. inr (last-one new 14 y)) (is-one new 13 _ x))) (is-one new 8 _ (t .1));
-    }
-
 -- an open row is neither CONFIRMED nor DISPLACED
 pub open-off : (r : List ℕ) → isOpen r ≡ true → Off (status r)
 unfolding isOpen every off
 open-off r e = off-facts (status r) (among-all off opens (status r) e refl)
 
--- nor is one that lapses
+-- the customer's: from an open status to 8, 13 or 14
+customerFits : ℕ → ℕ → Bool
+customerFits new old = (old among opens) && (new among (8 ∷ 13 ∷ 14 ∷ []))
+
+customer-fits : (pre ever : Bool) → allFit customerFits (customerMoves pre ever) ≡ true
+unfolding allFit fits every customerFits customerMoves
+customer-fits true true = refl
+customer-fits true false = refl
+customer-fits false ever = refl
+
+pub record CustomerMove (r : List ℕ) (new : ℕ) : Type 0 where
+  pub is-open : isOpen r ≡ true
+  pub before : Off (status r)
+  pub after : (new ≡ 8) ⊎ ((new ≡ 13) ⊎ (new ≡ 14))
+
+customer-test : (r : List ℕ) (new : ℕ) → customerMay r new ≡ true → customerFits new (status r) ≡ true
+unfolding customerMay
+customer-test r new e = allowed-fits customerFits _ new (status r) (customer-fits _ _) e
+
+pub customer-move : (r : List ℕ) (new : ℕ) → customerMay r new ≡ true → CustomerMove r new
+unfolding customerFits isOpen
+customer-move r new e =
+    let t = and-both (status r among opens) _ (customer-test r new e) in
+    record {
+      is-open = t .0;
+      before = open-off r (t .0);
+      after = ⊎-elim (λ x. inl x) (λ x. inr (⊎-elim (λ y. inl y) (λ y. inr (last-one new 14 y)) (is-one new 13 _ x))) (is-one new 8 _ (t .1));
+    }
+
+-- a row that lapses is neither CONFIRMED nor DISPLACED
 pub lapsing-off : {s : ℕ} → (s ≡ 6) ⊎ ((s ≡ 7) ⊎ ((s ≡ 10) ⊎ (s ≡ 11))) → Off s
 lapsing-off (inl e) = (λ z. omega (arith, e, z), λ z. omega (arith, e, z))
 lapsing-off (inr (inl e)) = (λ z. omega (arith, e, z), λ z. omega (arith, e, z))

@@ -39,7 +39,8 @@ use Rattle.rules.proofs.Unmoved.{unmoved-raise}
 use Rattle.rules.proofs.Before.{unconfirmed-stays, short-stays}
 use Rattle.rules.proofs.Kept.{same-self, same-approved, same-status}
 use Rattle.rules.proofs.TallyLaws.{entryAfter, feed-none, fed-red, fed-quiet, fed-reduced, fed-unreduced, fed-reduced-out}
-use Rattle.rules.proofs.Entries.{force-length, status-agrees, approved-agrees, reduced-agrees, lapsed-agrees, approved-start, approved-confirms}
+use Rattle.rules.proofs.Forces.{force-length}
+use Rattle.rules.proofs.Entries.{status-agrees, approved-agrees, reduced-agrees, lapsed-agrees, approved-start, approved-confirms}
 use Rattle.rules.proofs.Good.{Agrees, Ordered, GoodAt, Good}
 use Rattle.rules.proofs.Keeping.{stepped, ordered, columns-sound}
 use Rattle.rules.proofs.Tests.{Left}
@@ -73,7 +74,7 @@ module _ {B : ℕ → ℕ → ℕ} {l : List ℕ} {t : Tally} (G : Good B l t) (
       let later : a .kind ≢ 1 = λ z. omega (arith, z, k) in
       let E = own-agrees G a (P .reference .0) (P .reference .1) w A later in
       let m = spanned G a (P .reference .0) (P .reference .1) in
-      let long : length (inForce H r) ≡ spanHours r = force-length E m in
+      let long : length (inForce H r) ≡ spanHours r = force-length m in
       let now : status (row H (confirm H n (inForce H r) l) n) ≡ CONFIRMED = ap status (confirm-leaves (formed (G .sound)) lapse-used (inForce H r) long .own) ∙ confirmed-status (room G a (P .reference .0) (P .reference .1) (inForce H r) long) in
       confirmed-good G a (P .reference .0) (P .reference .1) w A later (λ z. omega (arith, z, k)) (lapse-off .0) now
       (ready-self G lapse-used lapse-off) (inForce H r) long (C .unconfirmed) (C .short) S
@@ -131,7 +132,7 @@ module _ {B : ℕ → ℕ → ℕ} {l : List ℕ} {t : Tally} (G : Good B l t) (
       let later : a .kind ≢ 1 = λ z. omega (arith, z, k) in
       let E = own-agrees G a (P .reference .0) (P .reference .1) w A later in
       let m = spanned G a (P .reference .0) (P .reference .1) in
-      let long : length mw ≡ spanHours (namedRow (hours l) l a) = force-length E m in
+      let long : length mw ≡ spanHours (namedRow (hours l) l a) = force-length m in
       let s = same-approved (same-self F approve-used) in
       let Y = ready-on G approve-used approve-off (raise approved) s (status (namedRow (hours l) l a)) (λ h. approved-calm (placed F approve-used) h) approve-off in
       let long1 : length mw ≡ spanHours (raise approved (namedRow (hours l) l a)) = omega (arith, long, s .start, s .stop) in

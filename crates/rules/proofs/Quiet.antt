@@ -11,11 +11,11 @@ use lib.Seq.{getD-set-same, getD-set-other}
 use lib.IntN.{ℤ}
 use Rattle.words.proofs.Laws.{splice-length, splice-before, splice-after}
 use Rattle.rules.specs.Pick.{when}
-use Rattle.rules.specs.Numbers.{rowWords, requestedPart, grantedPart, availablePart, displacedPart, reducedPart, approved}
+use Rattle.rules.specs.Numbers.{rowWords, requestedPart, grantedPart, availablePart, displacedPart, reducedPart, approved, countered}
 use Rattle.rules.specs.Layout.{hours, used, row, onRow, rowSize, reqtype, status, related, path, start, spanHours, hourAt, setHours, setStatus, raise}
 use Rattle.rules.specs.Megawatts.{grant}
 use Rattle.rules.specs.Checks.{profile, comes}
-use Rattle.rules.specs.SellerStatus.{accepts, offered}
+use Rattle.rules.specs.SellerStatus.{accepts, entered, offered}
 use Rattle.rules.specs.CustomerStatus.{bidden}
 use Rattle.rules.specs.declared.Action.{Action}
 use Rattle.column.specs.Column.{Off}
@@ -79,6 +79,10 @@ pub calm-when : {H h : ℕ} {r q : List ℕ} {s : ℕ} (b : Bool) (f : List ℕ 
 calm-when true f c d = d refl
 calm-when false f c d = c
 
+calm-entered : {H h : ℕ} {r q : List ℕ} {s : ℕ} → Calm H h r q s → (b : Bool) (v : ℕ) → Calm H h r (entered b v q) v
+unfolding entered
+calm-entered c b v = calm-status (calm-when b (raise countered) c (λ _. calm-set c 7 _ (lit< tt) (λ e. omega (arith, e)) (λ e. omega (arith, e)) (λ e. omega (arith, e)) (λ e. omega (arith, e)))) v
+
 -- ---- such a write is a step
 module _ {R H : ℕ} {l : List ℕ} {n : ℕ} (o : Placed R H l n) {h : ℕ} (f : List ℕ → List ℕ) {s : ℕ} (c : Calm H h (row H l n) (f (row H l n)) s) (before : Off (status (row H l n))) (after : Off s) {B : ℕ → ℕ} where
   pub calm-step : (out out′ : ℕ → ℕ → ℤ) (red red′ : ℕ → ℤ)
@@ -130,7 +134,7 @@ module _ {R H : ℕ} {l : List ℕ} {n : ℕ} (o : Placed R H l n) (h : ℕ) whe
       let A = calm-set own-calm 9 (a .price) (lit< tt) (λ e. omega (arith, e)) (λ e. omega (arith, e)) (λ e. omega (arith, e)) (λ e. omega (arith, e)) in
       let B = calm-set A 7 _ (lit< tt) (λ e. omega (arith, e)) (λ e. omega (arith, e)) (λ e. omega (arith, e)) (λ e. omega (arith, e)) in
       let C = calm-when (comes a || accepts a) (grant H (start (row H l n)) mw) B (λ e. grant-calm mw long B) in
-      calm-status (calm-set C 10 expires (lit< tt) (λ e. omega (arith, e)) (λ e. omega (arith, e)) (λ e. omega (arith, e)) (λ e. omega (arith, e))) (a .status)
+      calm-entered (calm-set C 10 expires (lit< tt) (λ e. omega (arith, e)) (λ e. omega (arith, e)) (λ e. omega (arith, e)) (λ e. omega (arith, e))) _ (a .status)
 
 -- ---- of a formed ledger
 module _ {l : List ℕ} {n : ℕ} (f : Formed l) (lt : n < used l) (before : Off (status (row (hours l) l n))) {h : ℕ} (hlt : h < hours l) (out out′ : ℕ → ℕ → ℤ) (red red′ : ℕ → ℤ) {B : ℕ → ℕ} where

@@ -3,21 +3,21 @@ use mathlib.Core.Path.{_≡_, sym, ap, subst, _∙_}
 use mathlib.Core.Logic.{_≢_}
 use mathlib.Core.Bool.{Bool, true, false, _||_}
 use mathlib.Core.List.{List}
-use Prim.Native.Nat.{ℕ, _+_, _-_, _≤_, _<_}
+use Prim.Native.Nat.{ℕ, _+_, _-_, _*_, _≤_, _<_}
 use native.Mathlib.Omega.{arith}
 use lib.Dec.{lit<, lit≤}
 use lib.ListN.{length, getD, set, length-set}
 use lib.Seq.{getD-set-same, getD-set-other}
 use Rattle.rules.specs.Pick.{when}
-use Rattle.rules.specs.Numbers.{rowWords, profiles, requestedPart, grantedPart, availablePart, displacedPart, reducedPart, approved, grantedGiven, offerGiven, CONFIRMED, DISPLACED, ANNULLED}
+use Rattle.rules.specs.Numbers.{rowWords, profiles, requestedPart, grantedPart, availablePart, displacedPart, reducedPart, approved, grantedGiven, offerGiven, countered, CONFIRMED, DISPLACED, ANNULLED}
 use Rattle.rules.specs.Layout.{rowSize, reqtype, status, related, start, stop, flags, spanHours, hourAt, span, requested, granted, available, setHours, addHours, lessHours, clearHours, hasFlag, flagged, has, raise}
 use Rattle.rules.specs.Megawatts.{grant, takeFrom, displacedRow, annulledRow, reducedRow}
 use Rattle.rules.specs.Confirming.{held, emptied}
 use Rattle.rules.specs.Checks.{profile, comes}
-use Rattle.rules.specs.SellerStatus.{accepts, offered}
+use Rattle.rules.specs.SellerStatus.{accepts, entered, offered}
 use Rattle.rules.specs.CustomerStatus.{bidden}
 use Rattle.rules.specs.declared.Action.{Action}
-use Rattle.rules.proofs.Spans.{Spanned, span-set, span-length, put-word, put-spanned, put-other, put-own, put-hour, add-word, add-spanned, add-other, add-hour, less-word, less-spanned, less-other, less-hour, clear-word, clear-spanned, clear-other, clear-hour, flag-raised, approved-kept, offer-kept}
+use Rattle.rules.proofs.Spans.{Spanned, span-set, span-length, put-word, put-spanned, put-other, put-own, put-hour, add-word, add-spanned, add-other, add-hour, less-word, less-spanned, less-other, less-hour, clear-word, clear-spanned, clear-other, clear-hour, flag-raised, lower-kept, higher-kept}
 
 -- ---- what an entry is compared with: of a row from hour s to hour t
 pub record Shown (H s t : ℕ) (r : List ℕ) (ty st ref : ℕ) (req gr : List ℕ) (given : Bool) : Type 0 where
@@ -72,10 +72,14 @@ module _ {H s t : ℕ} {r : List ℕ} {ty st ref : ℕ} {req gr : List ℕ} {b :
       (getD-set-other r 7 1 x 0 (λ z. omega (arith, z)) ∙ S .status) (ap (hasFlag grantedGiven) (getD-set-same r 7 x 0 (omega (arith, S .long))) ∙ e) f
 
   pub shown-approved : Shown H s t (raise approved r) ty st ref req gr b
-  shown-approved = shown-flags (flagged approved (flags r)) b (approved-kept (flags r) ∙ S .flag) (λ f. f)
+  shown-approved = shown-flags (flagged approved (flags r)) b (lower-kept approved 1 (flags r) (lit< tt) ∙ S .flag) (λ f. f)
 
-  pub shown-offer : Shown H s t (raise offerGiven r) ty st ref req gr b
-  shown-offer = shown-flags (flagged offerGiven (flags r)) b (offer-kept (flags r) ∙ S .flag) (λ f. f)
+  pub shown-higher : (k : ℕ) → Shown H s t (raise (k * 16) r) ty st ref req gr b
+  shown-higher k = shown-flags (flagged (k * 16) (flags r)) b (higher-kept k (flags r) ∙ S .flag) (λ f. f)
+
+  shown-countered : (c : Bool) → Shown H s t (when c (raise countered) r) ty st ref req gr b
+  shown-countered true = shown-higher 2
+  shown-countered false = S
 
   -- requested is replaced
   pub shown-requested : (v : List ℕ) → length v ≡ t - s → Shown H s t (setHours H requestedPart s v r) ty st ref v gr b
@@ -185,6 +189,10 @@ module _ {H s t : ℕ} {r : List ℕ} {ty st ref : ℕ} {req gr : List ℕ} {b :
       w = put-word shown-spanned grantedPart s v (lit< tt) room
 
 -- ---- the rules' writes
+shown-entered : {H s t : ℕ} {r : List ℕ} {ty st ref : ℕ} {req gr : List ℕ} {b : Bool} → Shown H s t r ty st ref req gr b → (c : Bool) (x : ℕ) → Shown H s t (entered c x r) ty x ref req gr b
+unfolding entered
+shown-entered S c x = shown-status (shown-countered S c) x
+
 module _ {H s t : ℕ} {r : List ℕ} {ty st ref : ℕ} {req gr : List ℕ} {b : Bool} (S : Shown H s t r ty st ref req gr b) where
   pub shown-held : (v : List ℕ) → length v ≡ t - s → Shown H s t (held H s v r) ty CONFIRMED ref req v true
   unfolding held
@@ -234,20 +242,20 @@ module _ {H s t : ℕ} {r : List ℕ} {ty st ref : ℕ} {req gr : List ℕ} {b :
   pub shown-offered : (expires : ℕ) (a : Action) (mw : List ℕ) → (comes a || accepts a) ≡ false → Shown H s t (offered H expires a mw r) ty (a .status) ref req gr b
   unfolding offered
   shown-offered expires a mw c =
-      shown-status
+      shown-entered
       (shown-word
       (subst (λ (x : Bool). Shown H s t (when x (grant H (start r) mw) (raise offerGiven (set r 9 (a .price)))) ty st ref req gr b) (sym c)
-      (shown-offer (shown-word S 9 (a .price) (lit≤ tt) (lit< tt))))
+      (shown-higher (shown-word S 9 (a .price) (lit≤ tt) (lit< tt)) 1))
       10 expires (lit≤ tt) (lit< tt))
-      (a .status)
+      _ (a .status)
 
   pub shown-granted : (expires : ℕ) (a : Action) (mw : List ℕ) → (comes a || accepts a) ≡ true → length mw ≡ t - s → Shown H s t (offered H expires a mw r) ty (a .status) ref req mw true
   unfolding offered
   shown-granted expires a mw c e =
-      shown-status
+      shown-entered
       (shown-word
       (subst (λ (x : Bool). Shown H s t (when x (grant H (start r) mw) (raise offerGiven (set r 9 (a .price)))) ty st ref req mw true) (sym c)
       (subst (λ (i : ℕ). Shown H s t (grant H i mw (raise offerGiven (set r 9 (a .price)))) ty st ref req mw true) (sym (S .start))
-      (shown-grant (shown-offer (shown-word S 9 (a .price) (lit≤ tt) (lit< tt))) mw e)))
+      (shown-grant (shown-higher (shown-word S 9 (a .price) (lit≤ tt) (lit< tt)) 1) mw e)))
       10 expires (lit≤ tt) (lit< tt))
-      (a .status)
+      _ (a .status)

@@ -3,8 +3,8 @@ use mathlib.Core.Path.{_≡_, refl, sym, ap, _∙_}
 use mathlib.Core.Logic.{_≢_, _⊎_, ⊎-elim, inl, inr}
 use mathlib.Core.Bool.{Bool, true, false}
 use mathlib.Core.List.{List}
-use Prim.Native.Nat.{ℕ, _+_, _-_, _/_, _%_, _≤_, _<_}
-use native.Mathlib.Nat.{one-mul, add-mul-div-right}
+use Prim.Native.Nat.{ℕ, _+_, _-_, _*_, _/_, _%_, _≤_, _<_}
+use native.Mathlib.Nat.{mul-assoc, add-div-right, div-div-eq-div-mul}
 use native.Mathlib.Omega.{arith}
 use borrow.Author.Tests.{eqb-false, eq-eqb}
 use lib.Dec.{eqb, lit<}
@@ -13,7 +13,7 @@ use lib.Seq.{ext-getD, getD-set-same, getD-set-other, drop-set-lt}
 use Rattle.words.specs.Lists.{part, build, zip2, noughts}
 use Rattle.words.proofs.Laws.{lt-or-le, build-length, noughts-length, part-length, part-at, part-apart, splice-before, splice-in, splice-after}
 use Rattle.rules.specs.Pick.{pick}
-use Rattle.rules.specs.Numbers.{rowWords, profiles, approved, grantedGiven, offerGiven}
+use Rattle.rules.specs.Numbers.{rowWords, profiles, approved, grantedGiven}
 use Rattle.rules.specs.Layout.{rowSize, start, stop, flags, spanHours, hourAt, hoursOf, span, setHours, addHours, lessHours, clearHours, standing, hasFlag, flagged, has, raise}
 use Rattle.rules.proofs.Seen.{hour-in, hour-apart, set-length, standing-before, standing-in, standing-after}
 
@@ -215,36 +215,39 @@ flag-raised flag word lt = go (eqb (word / flag % 2) 1) refl
     go : (b : Bool) → eqb (word / flag % 2) 1 ≡ b → eqb (pick b word (word + flag) / flag % 2) 1 ≡ true
     go true e = e
     go false e =
-        let d : (word + flag) / flag ≡ word / flag + 1 = ap (λ (x : ℕ). (word + x) / flag) (sym (one-mul flag)) ∙ add-mul-div-right word 1 lt in
-        eq-eqb _ _ (ap (λ (x : ℕ). x % 2) d ∙ next-odd (word / flag) (eqb-false (word / flag % 2) 1 e))
+        eq-eqb _ _ (ap (λ (x : ℕ). x % 2) (add-div-right word lt) ∙ next-odd (word / flag) (eqb-false (word / flag % 2) 1 e))
 
--- raising approved, or offer given, leaves granted given as it was
-pub approved-kept : (word : ℕ) → hasFlag grantedGiven (flagged approved word) ≡ hasFlag grantedGiven word
+-- raising a flag leaves a higher one as it was
+pub lower-kept : (flag k word : ℕ) → 0 < flag → hasFlag (flag * 2 * k) (flagged flag word) ≡ hasFlag (flag * 2 * k) word
 unfolding hasFlag flagged
-approved-kept word = go (eqb (word / 4 % 2) 1) refl
+lower-kept flag k word pos = go (eqb (word / flag % 2) 1) refl
   where
-    go : (b : Bool) → eqb (word / 4 % 2) 1 ≡ b → eqb (pick b word (word + 4) / 8 % 2) 1 ≡ eqb (word / 8 % 2) 1
+    halves : (x : ℕ) → x / (flag * 2 * k) ≡ x / flag / 2 / k
+    halves x = sym (div-div-eq-div-mul (x / flag) 2 k ∙ div-div-eq-div-mul x flag (2 * k) ∙ ap (λ (y : ℕ). x / y) (sym (mul-assoc flag 2 k)))
+
+    go : (b : Bool) → eqb (word / flag % 2) 1 ≡ b → eqb (pick b word (word + flag) / (flag * 2 * k) % 2) 1 ≡ eqb (word / (flag * 2 * k) % 2) 1
     go true e = refl
     go false e =
-        let z : word / 4 % 2 ≡ 0 = omega (arith, eqb-false (word / 4 % 2) 1 e) in
-        let a : word / 8 ≡ word / 4 / 2 = omega arith in
-        let b : (word + 4) / 8 ≡ word / 4 / 2 = omega arith in
-        ap (λ (x : ℕ). eqb (x % 2) 1) (b ∙ sym a)
+        let even : word / flag % 2 ≢ 1 = eqb-false (word / flag % 2) 1 e in
+        let next : (word + flag) / flag ≡ word / flag + 1 = add-div-right word pos in
+        let same : (word + flag) / flag / 2 ≡ word / flag / 2 = omega (arith, next) in
+        ap (λ (x : ℕ). eqb (x % 2) 1) (halves (word + flag) ∙ ap (λ (x : ℕ). x / k) same ∙ sym (halves word))
 
-pub offer-kept : (word : ℕ) → hasFlag grantedGiven (flagged offerGiven word) ≡ hasFlag grantedGiven word
+-- raising a flag above granted given leaves that as it was
+pub higher-kept : (k word : ℕ) → hasFlag grantedGiven (flagged (k * 16) word) ≡ hasFlag grantedGiven word
 unfolding hasFlag flagged
-offer-kept word = go (eqb (word / 16 % 2) 1)
+higher-kept k word = go (eqb (word / (k * 16) % 2) 1)
   where
-    go : (b : Bool) → eqb (pick b word (word + 16) / 8 % 2) 1 ≡ eqb (word / 8 % 2) 1
+    go : (b : Bool) → eqb (pick b word (word + k * 16) / 8 % 2) 1 ≡ eqb (word / 8 % 2) 1
     go true = refl
-    go false = let n : (word + 16) / 8 % 2 ≡ word / 8 % 2 = omega arith in ap (λ (x : ℕ). eqb x 1) n
+    go false = let n : (word + k * 16) / 8 % 2 ≡ word / 8 % 2 = omega arith in ap (λ (x : ℕ). eqb x 1) n
 
 -- of a row
 pub raise-has : (flag : ℕ) (r : List ℕ) → 0 < flag → 7 < length r → has flag (raise flag r) ≡ true
 raise-has flag r pos lt = ap (hasFlag flag) (getD-set-same r 7 (flagged flag (flags r)) 0 lt) ∙ flag-raised flag (flags r) pos
 
 pub raise-approved : (r : List ℕ) → 7 < length r → has grantedGiven (raise approved r) ≡ has grantedGiven r
-raise-approved r lt = ap (hasFlag grantedGiven) (getD-set-same r 7 (flagged approved (flags r)) 0 lt) ∙ approved-kept (flags r)
+raise-approved r lt = ap (hasFlag grantedGiven) (getD-set-same r 7 (flagged approved (flags r)) 0 lt) ∙ lower-kept approved 1 (flags r) (lit< tt)
 
-pub raise-offer : (r : List ℕ) → 7 < length r → has grantedGiven (raise offerGiven r) ≡ has grantedGiven r
-raise-offer r lt = ap (hasFlag grantedGiven) (getD-set-same r 7 (flagged offerGiven (flags r)) 0 lt) ∙ offer-kept (flags r)
+pub raise-higher : (k : ℕ) (r : List ℕ) → 7 < length r → has grantedGiven (raise (k * 16) r) ≡ has grantedGiven r
+raise-higher k r lt = ap (hasFlag grantedGiven) (getD-set-same r 7 (flagged (k * 16) (flags r)) 0 lt) ∙ higher-kept k (flags r)

@@ -11,11 +11,11 @@ use lib.ListN.{length, getD, set, length-set}
 use lib.Seq.{getD-set-other}
 use Rattle.words.proofs.Laws.{splice-before, splice-after}
 use Rattle.rules.specs.Pick.{when}
-use Rattle.rules.specs.Numbers.{rowWords, grantedPart, availablePart, requestedPart, grantedGiven, offerGiven}
-use Rattle.rules.specs.Layout.{rowSize, row, onRow, rowOf, relatedRow, Sized, reqtype, related, start, stop, path, flags, flagged, raise, setStatus, hourAt, setHours}
+use Rattle.rules.specs.Numbers.{rowWords, grantedPart, availablePart, requestedPart, grantedGiven, offerGiven, countered}
+use Rattle.rules.specs.Layout.{rowSize, row, onRow, rowOf, relatedRow, Sized, reqtype, related, start, stop, path, flags, flagged, raise, setStatus, setOffer, setLimit, hourAt, setHours}
 use Rattle.rules.specs.Megawatts.{grant}
 use Rattle.rules.specs.Checks.{profile, comes}
-use Rattle.rules.specs.SellerStatus.{accepts, offered}
+use Rattle.rules.specs.SellerStatus.{accepts, entered, offered}
 use Rattle.rules.specs.CustomerStatus.{bidden}
 use Rattle.rules.specs.declared.Action.{Action}
 use Rattle.rules.proofs.Turned.{Turned, turned, kept-word}
@@ -103,21 +103,32 @@ module _ {H : ℕ} {r : List ℕ} (e : length r ≡ rowSize H) where
   pub unmoved-raise : (flag : ℕ) → Unmoved H r (raise flag r)
   unmoved-raise flag = unmoved-later 7 (flagged flag (flags r)) (lit< tt) (lit< tt)
 
+unmoved-entered : {H : ℕ} {r : List ℕ} → length r ≡ rowSize H → (b : Bool) (s : ℕ) → Unmoved H r (entered b s r)
+unfolding entered
+unmoved-entered {H} {r} e b s =
+    let q = unmoved-when {H = H} {r = r} b (raise countered) e (λ z. unmoved-raise e countered) in
+    unmoved-then q (unmoved-status (q .long) s)
+
 pub unmoved-grant : {H : ℕ} {r : List ℕ} → length r ≡ rowSize H → (s : ℕ) (mw : List ℕ) → s + length mw ≤ H → Unmoved H r (grant H s mw r)
 unfolding grant
 unmoved-grant {H} {r} e s mw fits =
     let q = unmoved-hours {H = H} {r = r} e grantedPart s mw (lit< tt) fits in
     unmoved-then q (unmoved-raise (q .long) grantedGiven)
 
--- the seller's moves to 6, 7, 10, 11
-pub unmoved-offered : {H : ℕ} {r : List ℕ} → length r ≡ rowSize H → (expires : ℕ) (a : Action) (mw : List ℕ) → start r + length mw ≤ H → Unmoved H r (offered H expires a mw r)
-unfolding offered
-unmoved-offered {H} {r} e expires a mw fits =
+-- the seller's moves to 6, 7, 10, 11, up to the limit, and whole
+pub unmoved-limited : {H : ℕ} {r : List ℕ} → length r ≡ rowSize H → (expires : ℕ) (a : Action) (mw : List ℕ) → start r + length mw ≤ H
+    → Unmoved H r (setLimit expires (when (comes a || accepts a) (grant H (start r) mw) (raise offerGiven (setOffer (a .price) r))))
+unmoved-limited {H} {r} e expires a mw fits =
     let q1 = unmoved-later {H = H} {r = r} e 9 (a .price) (lit< tt) (lit< tt) in
     let q2 = unmoved-then q1 (unmoved-raise (q1 .long) offerGiven) in
     let q3 = unmoved-then q2 (unmoved-when (comes a || accepts a) (grant H (start r) mw) (q2 .long) (λ z. unmoved-grant (q2 .long) (start r) mw fits)) in
-    let q4 = unmoved-then q3 (unmoved-later (q3 .long) 10 expires (lit< tt) (lit< tt)) in
-    unmoved-then q4 (unmoved-status (q4 .long) (a .status))
+    unmoved-then q3 (unmoved-later (q3 .long) 10 expires (lit< tt) (lit< tt))
+
+pub unmoved-offered : {H : ℕ} {r : List ℕ} → length r ≡ rowSize H → (expires : ℕ) (a : Action) (mw : List ℕ) → start r + length mw ≤ H → Unmoved H r (offered H expires a mw r)
+unfolding offered
+unmoved-offered e expires a mw fits =
+    let q = unmoved-limited e expires a mw fits in
+    unmoved-then q (unmoved-entered (q .long) _ (a .status))
 
 -- the customer's moves to 8 and 13
 pub unmoved-bidden : {H : ℕ} {r : List ℕ} → length r ≡ rowSize H → (w : List ℕ) (a : Action) → (comes a ≡ true → start r + length (profile w a) ≤ H) → Unmoved H r (bidden H w a r)

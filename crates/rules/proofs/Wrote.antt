@@ -12,8 +12,8 @@ use borrow.Author.Tests.{not-true}
 use lib.ListN.{length, getD}
 use lib.Seq.{ext-getD}
 use Rattle.words.proofs.Laws.{lt-or-le}
-use Rattle.rules.specs.Numbers.{headWords, rowWords}
-use Rattle.rules.specs.Layout.{rowBase, rowSize, row, onRow, Sized}
+use Rattle.rules.specs.Numbers.{headWords, rowWords, countered}
+use Rattle.rules.specs.Layout.{rowBase, rowSize, row, onRow, has, Sized}
 use Rattle.rules.proofs.Rows.{row-length, word-is, on-sized, on-own, on-other, on-head}
 use Rattle.rules.proofs.Lasting.{lasting, Lasting}
 
@@ -24,12 +24,13 @@ pub record Agree (K : ℕ → Bool) (R H : ℕ) (l m : List ℕ) : Type 0 where
   pub head : (i : ℕ) → i < headWords → getD l i 0 ≡ getD m i 0
   pub rows : (k : ℕ) → K k ≡ true → row H l k ≡ row H m k
 
--- l′ has the head of l, its rows where K does not hold, and the lasting words of every row
+-- l′ has the head of l, its rows where K does not hold, the lasting words of every row, and is countered where l is
 pub record Frame (K : ℕ → Bool) (R H : ℕ) (l l′ : List ℕ) : Type 0 where
   pub sized : Sized l′ R H
   pub head : (i : ℕ) → i < headWords → getD l′ i 0 ≡ getD l i 0
   pub other : (k : ℕ) → K k ≡ false → row H l′ k ≡ row H l k
   pub word : (k i : ℕ) → i < rowWords → lasting i ≡ true → getD (row H l′ k) i 0 ≡ getD (row H l k) i 0
+  pub marked : (k : ℕ) → has countered (row H l k) ≡ true → has countered (row H l′ k) ≡ true
 
 -- l′ and m′ are l and m after the same writes, each in a row where K holds, that keeps lasting words
 pub data Wrote (K : ℕ → Bool) (R H : ℕ) : List ℕ → List ℕ → List ℕ → List ℕ → Type 0 where
@@ -40,7 +41,7 @@ unlike : (K : ℕ → Bool) {k n : ℕ} → K k ≡ false → K n ≡ true → k
 unlike K p q e = true≢false (sym q ∙ ap K (sym e) ∙ p)
 
 pub frame-self : {K : ℕ → Bool} {R H : ℕ} {l : List ℕ} → Sized l R H → Frame K R H l l
-frame-self s = record { sized = s; head = λ i lt. refl; other = λ k q. refl; word = λ k i lt t. refl }
+frame-self s = record { sized = s; head = λ i lt. refl; other = λ k q. refl; word = λ k i lt t. refl; marked = λ k z. z }
 
 frame-on : {K : ℕ → Bool} {R H : ℕ} {l x : List ℕ} → Frame K R H l x → (n : ℕ) → K n ≡ true → n < R → (f : List ℕ → List ℕ) → Lasting H (row H x n) (f (row H x n)) → Frame K R H l (onRow H n f x)
 frame-on {K} {R} {H} {l} {x} F n kn lt f q = record {
@@ -48,6 +49,7 @@ frame-on {K} {R} {H} {l} {x} F n kn lt f q = record {
   head = λ i ilt. on-head (F .sized) lt f (q .long) i ilt ∙ F .head i ilt;
   other = λ k p. on-other (F .sized) lt f (q .long) (unlike K p kn) ∙ F .other k p;
   word = λ k i ilt t. go k i ilt t (ℕ-discrete k n) ∙ F .word k i ilt t;
+  marked = λ k z. stays k (ℕ-discrete k n) (F .marked k z);
 }
   where
     go : (k i : ℕ) → i < rowWords → lasting i ≡ true → Dec (k ≡ n) → getD (row H (onRow H n f x) k) i 0 ≡ getD (row H x k) i 0
@@ -57,6 +59,13 @@ frame-on {K} {R} {H} {l} {x} F n kn lt f q = record {
         ∙ q .word i ilt t
         ∙ sym (ap (λ (j : ℕ). getD (row H x j) i 0) e)
     go k i ilt t (no ne) = ap (λ (r : List ℕ). getD r i 0) (on-other (F .sized) lt f (q .long) ne)
+
+    stays : (k : ℕ) → Dec (k ≡ n) → has countered (row H x k) ≡ true → has countered (row H (onRow H n f x) k) ≡ true
+    stays k (yes e) z =
+        ap (λ (j : ℕ). has countered (row H (onRow H n f x) j)) e
+        ∙ ap (λ (r : List ℕ). has countered r) (on-own (F .sized) lt f (q .long))
+        ∙ q .marked (ap (λ (j : ℕ). has countered (row H x j)) (sym e) ∙ z)
+    stays k (no ne) z = ap (λ (r : List ℕ). has countered r) (on-other (F .sized) lt f (q .long) ne) ∙ z
 
 -- nothing changes but rows where K holds, and of them no lasting word
 pub frame : {K : ℕ → Bool} {R H : ℕ} {l m l′ m′ : List ℕ} → Sized l R H → Wrote K R H l m l′ m′ → Frame K R H l l′
@@ -96,7 +105,7 @@ pub written : {K : ℕ → Bool} {R H : ℕ} {l m l′ m′ : List ℕ} → Size
     → (Lasting H (row H l n) (row H l′ n) → Lasting H (row H l′ n) (f (row H l′ n))) → Wrote K R H l m (onRow H n f l′) (onRow H n f m′)
 written s w {n} kn lt f q =
     let F = frame s w in
-    write w n kn lt f (q (record { long = row-length (F .sized) lt; word = λ i ilt t. F .word n i ilt t }))
+    write w n kn lt f (q (record { long = row-length (F .sized) lt; word = λ i ilt t. F .word n i ilt t; marked = F .marked n }))
 
 pub wrote-then : {K : ℕ → Bool} {R H : ℕ} {l m l′ m′ l″ m″ : List ℕ} → Wrote K R H l m l′ m′ → Wrote K R H l′ m′ l″ m″ → Wrote K R H l m l″ m″
 wrote-then a none = a

@@ -4,7 +4,7 @@ use mathlib.Core.List.{List, [], _∷_}
 use Prim.Native.Nat.{ℕ}
 use lib.Dec.{eqb}
 use Rattle.rules.specs.Pick.{_among_}
-use Rattle.rules.specs.Numbers.{preconfirmed, coordinated, CONFIRMED, ANNULLED, RELINQUISH}
+use Rattle.rules.specs.Numbers.{preconfirmed, coordinated, countered, CONFIRMED, ANNULLED, RELINQUISH}
 use Rattle.rules.specs.Layout.{reqtype, status, has}
 
 abbrev pub opens : List ℕ
@@ -50,11 +50,12 @@ sellerMoves pre coord relinquish =
     ∷ (to 16 ∷ [] from opens if pre)
     ∷ []
 
-unfoldable pub customerMoves : Bool → List Move
-customerMoves pre =
+-- of a row that is preconfirmed, was ever countered, or not
+unfoldable pub customerMoves : Bool → Bool → List Move
+customerMoves pre ever =
     (to 8 ∷ [] from 6 ∷ 7 ∷ [] if true)
     ∷ (to 13 ∷ [] from 6 ∷ 7 ∷ 10 ∷ 11 ∷ [] if true)
-    ∷ (to 14 ∷ [] from opens if not pre)
+    ∷ (to 14 ∷ [] from opens if (not pre || ever))
     ∷ (to 14 ∷ [] from 6 ∷ 7 ∷ 11 ∷ [] if pre)
     ∷ []
 
@@ -63,4 +64,4 @@ unfoldable pub sellerMay : List ℕ → ℕ → Bool
 sellerMay r new = allowed (sellerMoves (has preconfirmed r) (has coordinated r) (eqb (reqtype r) RELINQUISH)) new (status r)
 
 unfoldable pub customerMay : List ℕ → ℕ → Bool
-customerMay r new = allowed (customerMoves (has preconfirmed r)) new (status r)
+customerMay r new = allowed (customerMoves (has preconfirmed r) (has countered r)) new (status r)

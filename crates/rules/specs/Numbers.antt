@@ -48,7 +48,7 @@ abbrev pub mostPath : ℕ
 mostPath = 64
 
 abbrev pub mostFlags : ℕ
-mostFlags = 31
+mostFlags = 63
 
 abbrev pub endHour : ℕ
 endHour = 876600
@@ -77,6 +77,10 @@ grantedGiven = 8
 
 abbrev pub offerGiven : ℕ
 offerGiven = 16
+
+-- the row was ever at 6 or 7
+abbrev pub countered : ℕ
+countered = 32
 
 -- profiles of a row, in order
 abbrev pub requestedPart : ℕ

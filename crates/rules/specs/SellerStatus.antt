@@ -5,7 +5,7 @@ use Prim.Native.Nat.{ℕ, _+_}
 use lib.Dec.{eqb}
 use Rattle.words.specs.Lists.{covered, equal}
 use Rattle.rules.specs.Pick.{pick, _gives_else_, _onlyIf_, _orElse_, _then_, when, _among_}
-use Rattle.rules.specs.Numbers.{preconfirmed, approved, offerGiven, ACCEPTED, DISPLACED, ANNULLED, RESALE}
+use Rattle.rules.specs.Numbers.{preconfirmed, approved, offerGiven, countered, ACCEPTED, DISPLACED, ANNULLED, RESALE}
 use Rattle.rules.specs.Layout.{provider, window, clock, onRow, reqtype, seller, start, bid, has, raise, setStatus, setOffer, setLimit, requested, granted, available}
 use Rattle.rules.specs.Sound.{transfer}
 use Rattle.rules.specs.Moves.{isConfirmed, sellerMay}
@@ -77,13 +77,18 @@ sellerNumber H l w a =
     partlyUsed H a (namedRow H l a) gives 15 else
     0
 
--- Moves to 6, 7, 10, 11 set offer, replace granted if a profile comes, and set limit = now + window; to 10, 11 with granted never given copies requested into it
+-- the row enters a status; a counteroffer marks it as countered in the same write
+unfoldable pub entered : Bool → ℕ → List ℕ → List ℕ
+entered counteroffer s r = r then when counteroffer (raise countered) then setStatus s
+
+-- Moves to 6, 7, 10, 11 set offer, replace granted if a profile comes, and set limit = now + window; to 10, 11 with
+-- granted never given copies requested into it
 unfoldable pub offered : ℕ → ℕ → Action → List ℕ → List ℕ → List ℕ
 offered H expires a mw r =
     r then setOffer (a .price) then raise offerGiven
     then when (comes a || accepts a) (grant H (start r) mw)
     then setLimit expires
-    then setStatus (a .status)
+    then entered (counters a) (a .status)
 
 unfoldable pub offerAfter : ℕ → List ℕ → Action → List ℕ → List ℕ
 offerAfter H l a mw =

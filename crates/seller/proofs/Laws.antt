@@ -9,23 +9,23 @@ use lib.Dec.{eqb, lit<}
 use lib.ListN.{length, getD, set, length-set}
 use lib.Seq.{getD-set-other}
 use Rattle.rules.specs.Pick.{pick, when}
-use Rattle.rules.specs.Numbers.{mostPrice, offerGiven, DISPLACED}
+use Rattle.rules.specs.Numbers.{mostPrice, mostFlags, offerGiven, countered, DISPLACED}
 use Rattle.rules.specs.Layout.{rows, hours, window, clock, used, rowSize, row, onRow, start, flags, flagged, raise, setStatus, setOffer, setLimit, spanHours}
 use Rattle.rules.specs.Megawatts.{inForce, grant, displace, annul, carriesOver}
 use Rattle.rules.specs.Confirming.{confirm}
 use Rattle.rules.specs.Checks.{named, namedRow, comes}
-use Rattle.rules.specs.SellerStatus.{accepts, offers, grantedAfter, goesOn, annulsConfirmed, sellerNumber, offered, offerAfter, otherAfter, sellerAfter}
+use Rattle.rules.specs.SellerStatus.{counters, accepts, offers, grantedAfter, goesOn, annulsConfirmed, sellerNumber, entered, offered, offerAfter, otherAfter, sellerAfter}
 use Rattle.rules.specs.declared.Action.{Action}
 use Rattle.rules.proofs.SoundFacts.{SoundWords, SoundLedger}
 use Rattle.rules.proofs.Formed.{formed}
 use Rattle.rules.proofs.Spans.{Spanned}
-use Rattle.rules.proofs.Forces.{priced-granted, accepted-grants, force-offered}
+use Rattle.rules.proofs.Forces.{granted-length, priced-granted, accepted-grants, force-offered}
 use Rattle.rules.proofs.Leaves.{Leaves}
 use Rattle.rules.proofs.Effects.{own-leaves}
 use Rattle.rules.proofs.Passed.{and-none, ProfilePassed, SellerPassed, OfferPassed, confirm-passed, seller-status-passed}
 use Rattle.rules.proofs.Placed.{placed as set-in}
 use Rattle.rules.proofs.Unmoved.{Unmoved}
-use Rattle.rules.proofs.Kept.{Same, Fitting, words-priced, same-self, same-offered, next-own, fitting-granted}
+use Rattle.rules.proofs.Kept.{Same, Fitting, words-priced, words-granted, same-self, same-offered, next-own, fitting-granted}
 use Rattle.rules.proofs.Over.{overConfirming, overAnnulling, overDisplacing, own-offered, over-offered, over-displacing, over-annulling, over-status}
 use Rattle.rules.proofs.Before.{short-stays, over-confirming-stays, over-then-confirming}
 use Rattle.rules.proofs.Entries.{goes-on}
@@ -56,15 +56,30 @@ module _ {H f : ℕ} {r w : List ℕ} {a : Action} (long : length r ≡ rowSize 
       let n : spanHours r ≡ spanHours (set (setOffer (a .price) r) 7 f) = omega (arith, s, t) in
       record { profile = λ c. subst (λ (k : ℕ). ProfilePassed w a k) n (suits .profile c) }
 
+  -- once granted is replaced the flags are still within their bound
+  pub priced-flags : (expires : ℕ) {v : List ℕ}
+      → v ≡ when (comes a || accepts a) (grant H (start (set (setOffer (a .price) r) 7 f)) (grantedAfter H w a (set (setOffer (a .price) r) 7 f))) (set (setOffer (a .price) r) 7 f)
+      → flags (setLimit expires v) ≤ mostFlags
+  priced-flags expires {v} h = omega (arith, getD-set-other v 10 7 expires 0 (λ z. omega (arith, z)), ap (λ (x : List ℕ). flags x) h, go (comes a || accepts a))
+    where
+      m : Spanned H (set (setOffer (a .price) r) 7 f)
+      m = record { long = priced-long; starts = omega (arith, priced-words .starts); stops = priced-words .stops }
+
+      go : (b : Bool) → flags (when b (grant H (start (set (setOffer (a .price) r) 7 f)) (grantedAfter H w a (set (setOffer (a .price) r) 7 f))) (set (setOffer (a .price) r) 7 f)) ≤ mostFlags
+      go true = words-granted priced-long priced-words (start (set (setOffer (a .price) r) 7 f)) (grantedAfter H w a (set (setOffer (a .price) r) 7 f)) (omega (arith, granted-length m w a (priced-suits .profile), m .starts, m .stops)) .flags
+      go false = priced-words .flags
+
   pub priced-offered : (expires : ℕ) {v : List ℕ}
       → v ≡ when (comes a || accepts a) (grant H (start (set (setOffer (a .price) r) 7 f)) (grantedAfter H w a (set (setOffer (a .price) r) 7 f))) (set (setOffer (a .price) r) 7 f)
-      → setStatus (a .status) (setLimit expires v) ≡ offered H expires a (grantedAfter H w a r) r
-  unfolding offered
-  priced-offered expires h =
+      → {u : List ℕ} → u ≡ when (counters a) (raise countered) (setLimit expires v)
+      → setStatus (a .status) u ≡ offered H expires a (grantedAfter H w a r) r
+  unfolding entered offered
+  priced-offered expires h i =
       let m : Spanned H r = record { long = long; starts = omega (arith, words .starts); stops = words .stops } in
       let q : List ℕ = set (setOffer (a .price) r) 7 f in
       let p : List ℕ = raise offerGiven (setOffer (a .price) r) in
-      ap (λ (x : List ℕ). set (set x 10 expires) 1 (a .status))
+      ap (setStatus (a .status)) i
+      ∙ ap (λ (x : List ℕ). setStatus (a .status) (when (counters a) (raise countered) (setLimit expires x)))
       (h
       ∙ ap (λ (s : ℕ). when (comes a || accepts a) (grant H s (grantedAfter H w a q)) q) (kept 5 (λ z. omega (arith, z)) (λ z. omega (arith, z)))
       ∙ ap (λ (x : List ℕ). when (comes a || accepts a) (grant H (start r) (grantedAfter H w a x)) x) priced

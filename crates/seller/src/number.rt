@@ -54,7 +54,7 @@ use rules::Action;
 
 // 6, 7; 10, 11; any of them.
 
-fn counters(a: Action) -> bool
+pub fn counters(a: Action) -> bool
     ensures { λ b. ⌜ b ≡ isCounter a ⌝ }
 {
     let status = a.status;

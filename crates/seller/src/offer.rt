@@ -4,22 +4,24 @@ ghost use mathlib.Core.Bool.{_||_};
 ghost use Prim.Native.Nat.{_≤_};
 ghost use lib.ListN.{length};
 ghost use Rattle.rules.specs.Pick.{when};
-ghost use Rattle.rules.specs.Numbers.{mostHours, mostPrice};
-ghost use Rattle.rules.specs.Layout.{row, onRow, rowSize, start};
+ghost use Rattle.rules.specs.Numbers.{rowWords, mostHours, mostPrice, mostFlags, countered};
+ghost use Rattle.rules.specs.Layout.{row, onRow, rowSize, start, flags, raise};
 ghost use Rattle.rules.specs.Megawatts.{grant};
 ghost use Rattle.rules.specs.Checks.{namedRow, comes as profileComes};
-ghost use Rattle.rules.specs.SellerStatus.{accepts as isAcceptance, grantedAfter, offered, offerAfter};
+ghost use Rattle.rules.specs.SellerStatus.{counters as isCounter, accepts as isAcceptance, grantedAfter, offered, offerAfter};
 ghost use Rattle.rules.proofs.SoundFacts.{SoundWords};
 ghost use Rattle.megawatts.specs.Placed.{Placed};
 ghost use Rattle.megawatts.specs.Named.{Suits};
 ghost use Rattle.seller.specs.Offer.{Offering};
 use crate::number::accepts;
+use crate::number::counters;
 use crate::number::goes_on;
 use checks::checks::comes;
 use confirming::confirming::confirm_own;
 use confirming::confirming::grant_own_row;
 use confirming::confirming::grant_row;
 use layout::numbers::CLOCK;
+use layout::numbers::COUNTERED;
 use layout::numbers::FLAGS;
 use layout::numbers::LIMIT;
 use layout::numbers::OFFER;
@@ -53,6 +55,17 @@ fn give_row(r: &mut [u32], words: &[u32], hours: usize, a: Action)
     grant_own_row(r, hours);
 }
 
+// A move to 6 or 7 marks the row as countered.
+fn mark_countered(r: &mut [u32], a: Action)
+    requires { ⌜ (rowWords ≤ length (now r)) × (flags (now r) ≤ mostFlags) ⌝ }
+    ensures { λ _. ⌜ now (r .exit) ≡ when (isCounter a) (raise countered) (now (r .entry)) ⌝ }
+{
+    if !counters(a) {
+        return;
+    }
+    r[FLAGS] = flag_raised(r[FLAGS], COUNTERED);
+}
+
 fn offer_row(r: &mut [u32], words: &[u32], hours: usize, expires: u32, a: Action)
     requires { ⌜ (length (now r) ≡ rowSize hours) × (hours ≤ mostHours) ⌝ }
     requires { ⌜ SoundWords hours (now r) ⌝ }
@@ -63,6 +76,7 @@ fn offer_row(r: &mut [u32], words: &[u32], hours: usize, expires: u32, a: Action
     r[FLAGS] = flag_raised(r[FLAGS], OFFER_GIVEN);
     give_row(r, words, hours, a);
     r[LIMIT] = expires;
+    mark_countered(r, a);
     r[STATUS] = a.status;
 }
 

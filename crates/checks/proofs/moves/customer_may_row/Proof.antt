@@ -14,4 +14,5 @@ customer-may-row-spec =
     (λ c κs. search needs)
     (λ c κs. search needs)
     (λ c κs. search needs)
-    (λ c. c .customer-may .ensures ∙ cc (c .before .has-flag .ensures, c .before .before .word-at2 .ensures, c .before .before .before .word-at .ensures)))
+    (λ c κs. search needs)
+    (λ c. c .customer-may .ensures ∙ cc (c .before .has-flag2 .ensures, c .before .before .has-flag .ensures, c .before .before .before .word-at2 .ensures, c .before .before .before .before .word-at .ensures)))
