@@ -236,7 +236,7 @@ module _ {l : List ℕ} (s : SoundLedger l) (a : Action) (lt : named a < used l)
   approve_use P = go (waits_at ACCEPTED r) refl
     where
       off : Off (status r)
-      off = open_off r P.is_open
+      off = open_off r P.is_open_lem
 
       same : Same H r (raise approved r)
       same = same_approved (same_self F lt)

@@ -117,7 +117,7 @@ module _ {B : ℕ → ℕ → ℕ} {l : List ℕ} {t : Tally} (G : Good B l t) (
   approve_used = is_used G a P.reference.0 P.reference.1
 
   approve_off : Off (status (named_row (hours l) l a))
-  approve_off = open_off (named_row (hours l) l a) P.is_open
+  approve_off = open_off (named_row (hours l) l a) P.is_open_lem
 
   abbrev raised : List ℕ
   raised = on_row (hours l) (named a) (raise approved) l

@@ -8,7 +8,7 @@ use Rattle.words.proofs.Laws.{Gathering, gathering_start, gathering_turn, gather
 use Rattle.words.proofs.all_covered.Statement.{statement}
 use Rattle.words.proofs.all_covered.Tie as tie
 
-abbrev invariant-loop : tie.invariant-loop
+abbrev invariant-loop : tie.invariant-loop-i
 invariant-loop a b ok₀ i₀ i-end ok i = Gathering (length a) (λ k. leb (get_or a k 0) (get_or b k 0)) i-end ok i
 
 pub all_covered_spec : {M : Type 1} → statement M
@@ -25,5 +25,5 @@ all_covered_spec =
     (λ c. omega arith)
     (λ c. omega arith)
     (λ c. omega arith)
-    (λ c. gathering_turn c.before.before.before.loop.invariant (omega arith))
-    (λ c. gathering_done c.before.loop.invariant (omega arith)))
+    (λ c. gathering_turn c.before.before.before.loop-i.invariant (omega arith))
+    (λ c. gathering_done c.before.loop-i.invariant (omega arith)))

@@ -11,7 +11,7 @@ use Rattle.words.proofs.Laws.{Gathering, leb_add, gathering_start, gathering_tur
 use Rattle.words.proofs.all_roomy.Statement.{statement}
 use Rattle.words.proofs.all_roomy.Tie as tie
 
-abbrev invariant-loop : tie.invariant-loop
+abbrev invariant-loop : tie.invariant-loop-i
 invariant-loop bound a b ok₀ i₀ i-end ok i = Gathering (length a) (λ k. leb (get_or a k 0 + get_or b k 0) bound) i-end ok i
 
 pub all_roomy_spec : {M : Type 1} → statement M
@@ -34,7 +34,7 @@ all_roomy_spec =
     (λ c.
     let t = c.before.before.before.before.before in
     let s = t.before.before.before in
-    let x : ℕ = get_or s.args.a.now t.loop.i 0 in
-    let y : ℕ = get_or s.args.b.now t.loop.i 0 in
-    gathering_turn_by t.loop.invariant (omega arith) (ap (λ (r : ℕ). leb x s.args.bound && leb y r) c.room-beside.ensures ∙ leb_add x y s.args.bound))
-    (λ c. gathering_done c.before.loop.invariant (omega arith)))
+    let x : ℕ = get_or s.args.a.now t.loop-i.i 0 in
+    let y : ℕ = get_or s.args.b.now t.loop-i.i 0 in
+    gathering_turn_by t.loop-i.invariant (omega arith) (ap (λ (r : ℕ). leb x s.args.bound && leb y r) c.room_beside.ensures ∙ leb_add x y s.args.bound))
+    (λ c. gathering_done c.before.loop-i.invariant (omega arith)))

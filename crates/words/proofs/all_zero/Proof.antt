@@ -9,7 +9,7 @@ use Rattle.words.proofs.Laws.{Gathering, gathering_start, gathering_turn, gather
 use Rattle.words.proofs.all_zero.Statement.{statement}
 use Rattle.words.proofs.all_zero.Tie as tie
 
-abbrev invariant-loop : tie.invariant-loop
+abbrev invariant-loop : tie.invariant-loop-i
 invariant-loop a ok₀ i₀ i-end ok i = Gathering (length a) (λ k. eqb (get_or a k 0) 0) i-end ok i
 
 pub all_zero_spec : {M : Type 1} → statement M
@@ -24,5 +24,5 @@ all_zero_spec =
     (λ c. omega arith)
     (λ c. omega arith)
     (λ c. omega arith)
-    (λ c. gathering_turn c.before.before.loop.invariant (omega arith))
-    (λ c. gathering_done c.before.loop.invariant (omega arith) ∙ sym (every_below (λ x. eqb x 0) c.before.before.args.a.now)))
+    (λ c. gathering_turn c.before.before.loop-i.invariant (omega arith))
+    (λ c. gathering_done c.before.loop-i.invariant (omega arith) ∙ sym (every_below (λ x. eqb x 0) c.before.before.args.a.now)))

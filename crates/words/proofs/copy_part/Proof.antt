@@ -9,7 +9,7 @@ use Rattle.words.proofs.Laws.{Splicing, splicing_start, splicing_turn, splicing_
 use Rattle.words.proofs.copy_part.Statement.{statement}
 use Rattle.words.proofs.copy_part.Tie as tie
 
-abbrev invariant-loop : tie.invariant-loop
+abbrev invariant-loop : tie.invariant-loop-k
 invariant-loop l₀ to from count k₀ l k = Splicing l₀ to count (λ j. get_or l₀ (from + j) 0) l k
 
 pub copy_part_spec : {M : Type 1} → statement M
@@ -29,8 +29,8 @@ copy_part_spec =
     (λ c. omega arith)
     (λ c.
     let l = c.before.before in
-    splicing_turn l.loop.invariant (omega arith) _ (splicing_there l.loop.invariant (omega arith) l.before.args.from l.before.requires.apart))
-    (λ c. c.before.loop.invariant.long)
+    splicing_turn l.loop-k.invariant (omega arith) _ (splicing_there l.loop-k.invariant (omega arith) l.before.args.from l.before.requires.apart))
+    (λ c. c.before.loop-k.invariant.long)
     (λ c.
     let s = c.before.before in
-    splicing_done c.before.loop.invariant (omega arith) ∙ ap (λ (v : List ℕ). splice s.args.l.now s.args.to v) (build_part _ _ _ s.requires.second)))
+    splicing_done c.before.loop-k.invariant (omega arith) ∙ ap (λ (v : List ℕ). splice s.args.l.now s.args.to v) (build_part _ _ _ s.requires.second)))

@@ -9,7 +9,7 @@ use Rattle.words.proofs.Laws.{Searching, searching_start, searching_turn, search
 use Rattle.words.proofs.first_short.Statement.{statement}
 use Rattle.words.proofs.first_short.Tie as tie
 
-abbrev invariant-loop : tie.invariant-loop
+abbrev invariant-loop : tie.invariant-loop-i
 invariant-loop a b i₀ i = Searching (length a) (λ k. ltb (get_or a k 0) (get_or b k 0)) i
 
 pub first_short_spec : {M : Type 1} → statement M
@@ -26,6 +26,6 @@ first_short_spec =
     (λ c. omega arith)
     (λ c. omega arith)
     (λ c. omega arith)
-    (λ c. searching_turn c.before.before.before.before.loop.invariant (omega arith) (le-ltb _ _ c.if2.false))
-    (λ c. searching_done c.before.loop.invariant (omega arith))
-    (λ c. searching_found c.before.before.before.before.loop.invariant (omega arith) (lt-ltb _ _ c.if2.true)))
+    (λ c. searching_turn c.before.before.before.before.loop-i.invariant (omega arith) (le-ltb _ _ c.if-a-i.false))
+    (λ c. searching_done c.before.loop-i.invariant (omega arith))
+    (λ c. searching_found c.before.before.before.before.loop-i.invariant (omega arith) (lt-ltb _ _ c.if-a-i.true)))

@@ -7,7 +7,7 @@ use Rattle.words.proofs.Laws.{covered_at, Filling, filling_start, filling_turn, 
 use Rattle.words.proofs.subtract.Statement.{statement}
 use Rattle.words.proofs.subtract.Tie as tie
 
-abbrev invariant-loop : tie.invariant-loop
+abbrev invariant-loop : tie.invariant-loop-i
 invariant-loop dst₀ src i₀ i-end dst i = Filling dst₀ (λ k. get_or dst₀ k 0 - get_or src k 0) i-end dst i
 
 pub subtract_spec : {M : Type 1} → statement M
@@ -24,11 +24,11 @@ subtract_spec =
     (λ c. omega arith)
     (λ c.
     let l = c.before.before.before in
-    omega (arith, filling_kept l.loop.invariant (omega arith), covered_at l.before.args.src.now l.before.args.dst.now l.before.requires.1 l.loop.i (omega arith)))
+    omega (arith, filling_kept l.loop-i.invariant (omega arith), covered_at l.before.args.src.now l.before.args.dst.now l.before.requires.1 l.loop-i.i (omega arith)))
     (λ c. omega arith)
     (λ c. omega arith)
     (λ c. omega arith)
     (λ c. omega arith)
-    (λ c. let l = c.before.before.before.loop.invariant in filling_turn l (omega arith) _ (cc (filling_kept l (omega arith))))
-    (λ c. c.before.loop.invariant.long)
-    (λ c. filling_done c.before.loop.invariant (omega arith)))
+    (λ c. let l = c.before.before.before.loop-i.invariant in filling_turn l (omega arith) _ (cc (filling_kept l (omega arith))))
+    (λ c. c.before.loop-i.invariant.long)
+    (λ c. filling_done c.before.loop-i.invariant (omega arith)))
