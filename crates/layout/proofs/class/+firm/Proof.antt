@@ -37,26 +37,26 @@ pub +firm_spec : {M : Type 1} → statement M
     (λ c κs. search rules)
     (λ c.
     let k = c.before in
-    firm_type _ _ _ _ k.before.word_at.ensures (sym k.is-firm-type.ensures ∙ c.if1.true))
+    firm_type _ _ _ _ k.before.word_at-t.ensures (sym k.is_firm_type.ensures ∙ c.if-is_firm_type.true))
     (λ c κs. search rules)
     (λ c.
     let r = c.before in
     let k = r.before.before in
-    firm_none _ _ _ _ k.before.word_at.ensures (sym k.is-firm-type.ensures ∙ r.before.if1.false) (sym r.is-resold.ensures ∙ not-true _ c.if2.true))
+    firm_none _ _ _ _ k.before.word_at-t.ensures (sym k.is_firm_type.ensures ∙ r.before.if-is_firm_type.false) (sym r.is_resold.ensures ∙ c.if-not-is_resold.true))
     (λ c κs. search rules)
     (λ c κs. search rules)
     (λ c.
     let w = c.before.before in
     let r = w.before.before in
     let k = r.before.before in
-    firm_loose _ _ _ _ k.before.word_at.ensures _ w.word-at2.ensures (sym k.is-firm-type.ensures ∙ r.before.if1.false)
-    (sym r.is-resold.ensures ∙ not-false _ w.before.if2.false) (sym c.before.is-upward.ensures ∙ not-true _ c.if3.true))
+    firm_loose _ _ _ _ k.before.word_at-t.ensures _ w.word_at-related.ensures (sym k.is_firm_type.ensures ∙ r.before.if-is_firm_type.false)
+    (sym r.is_resold.ensures ∙ w.before.if-not-is_resold.false) (sym c.before.is_upward.ensures ∙ c.if-not-is_upward.true))
     (λ c κs. search rules)
     (λ c κs.
     let g = c.before.before in
     let w = g.before in
     let s = w.before.before.before.before.before.before.before in
-    let b = range 1 w.word-at2.result s.args.n.0 (sym g.is-upward.ensures ∙ not-false _ c.before.if3.false) in
+    let b = range 1 w.word_at-related.result s.args.n.0 (sym g.is_upward.ensures ∙ c.before.if-not-is_upward.false) in
     (omega (arith, s.requires.0, c.row_of.ensures), (s.requires.1.0, omega (arith, c.row_of.ensures))))
     (λ c.
     let g = c.before.before.before in
@@ -66,5 +66,5 @@ pub +firm_spec : {M : Type 1} → statement M
     let s = k.before.before.before in
     c.firm.ensures
     ∙ ap (λ (j : ℕ). firm s.args.hours s.args.l.now j) c.before.row_of.ensures
-    ∙ firm_up _ _ _ _ k.before.word_at.ensures _ w.word-at2.ensures (sym k.is-firm-type.ensures ∙ r.before.if1.false)
-    (sym r.is-resold.ensures ∙ not-false _ w.before.if2.false) (sym g.is-upward.ensures ∙ not-false _ c.before.before.if3.false))
+    ∙ firm_up _ _ _ _ k.before.word_at-t.ensures _ w.word_at-related.ensures (sym k.is_firm_type.ensures ∙ r.before.if-is_firm_type.false)
+    (sym r.is_resold.ensures ∙ w.before.if-not-is_resold.false) (sym g.is_upward.ensures ∙ c.before.before.if-not-is_upward.false))

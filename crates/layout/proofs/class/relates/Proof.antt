@@ -10,6 +10,6 @@ unfolding relates
 relates_spec =
     tie.close
     (tie.spec
-    (λ c. simp (eq-eqb _ _ c.if1.true))
-    (λ c. simp (ne_eqb _ _ c.before.if1.false, ne_eqb _ _ c.if2.true, or-false))
-    (λ c. simp (ne_eqb _ _ c.before.if1.false, eq-eqb _ _ c.if2.false)))
+    (λ c. simp (eq-eqb _ _ c.if-t-eq-RELINQUISH.true))
+    (λ c. simp (ne_eqb _ _ c.before.if-t-eq-RELINQUISH.false, ne_eqb _ _ c.if-u-ne-NONFIRM_REDIRECT.true, or-false))
+    (λ c. simp (ne_eqb _ _ c.before.if-t-eq-RELINQUISH.false, eq-eqb _ _ c.if-u-ne-NONFIRM_REDIRECT.false)))

@@ -14,21 +14,21 @@ create_spec =
     tie.close
     (tie.spec
     (λ c κs. search rules)
-    (λ c. let h = created_row _ _ _ _ _ _ (sym c.before.creates.ensures ∙ c.if1.true) in omega arith)
-    (λ c. let h = created_row _ _ _ _ _ _ (sym c.before.creates.ensures ∙ c.if1.true) in omega arith)
+    (λ c. let h = created_row _ _ _ _ _ _ (sym c.before.creates.ensures ∙ c.if-creates.true) in omega arith)
+    (λ c. let h = created_row _ _ _ _ _ _ (sym c.before.creates.ensures ∙ c.if-creates.true) in omega arith)
     (λ c. search rules)
     (λ c κs. search rules)
     (λ c κs.
     let k = c.before.before.before in
     let t = k.before.before.before in
-    let h = created_row _ _ _ _ _ _ (sym t.creates.ensures ∙ k.before.before.if1.true) in
+    let h = created_row _ _ _ _ _ _ (sym t.creates.ensures ∙ k.before.before.if-creates.true) in
     simp (length-append, length-take) (omega arith))
     (λ c. search rules)
     (λ c.
     let w = c.before.before in
     let k = w.before.before.before.before in
     let t = k.before.before.before in
-    let e = sym t.creates.ensures ∙ k.before.before.if1.true in
-    simp e (refl, written _ _ _ _ _ _ e k.clear.new.0 k.clear.ensures _ w.write-head.ensures))
+    let e = sym t.creates.ensures ∙ k.before.before.if-creates.true in
+    simp e (refl, written _ _ _ _ _ _ e k.clear.new.dst k.clear.ensures _ w.write_head.ensures))
     (λ c. search rules)
-    (λ c. simp (sym c.before.creates.ensures ∙ c.if1.false) (refl, refl)))
+    (λ c. simp (sym c.before.creates.ensures ∙ c.if-creates.false) (refl, refl)))

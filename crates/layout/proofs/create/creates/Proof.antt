@@ -13,6 +13,6 @@ creates_spec =
     tie.close
     (tie.spec
     (λ c κs. search rules)
-    (λ c κs. good_sizes _ _ _ _ _ (sym c.before.good-numbers.ensures ∙ c.if1.true))
-    (λ c. goes _ c.before.before.good-numbers.ensures c.before.if1.true c.is-long.ensures)
-    (λ c. stops _ c.before.good-numbers.ensures c.if1.false))
+    (λ c κs. good_sizes _ _ _ _ _ (sym c.before.good_numbers.ensures ∙ c.if-good_numbers.true))
+    (λ c. goes _ c.before.before.good_numbers.ensures c.before.if-good_numbers.true c.is_long.ensures)
+    (λ c. stops _ c.before.good_numbers.ensures c.if-good_numbers.false))

@@ -15,4 +15,4 @@ good_numbers_spec =
     (λ c κs. search rules)
     (λ c κs. search rules)
     (λ c. search rules)
-    (λ c. simp (c.before.before.before.from_one.ensures, c.before.before.from-one2.ensures, c.before.is_entity.ensures, c.from-one3.ensures)))
+    (λ c. simp (c.before.before.before.from_one.ensures, c.before.before.from_one-2.ensures, c.before.is_entity.ensures, c.from_one-3.ensures)))

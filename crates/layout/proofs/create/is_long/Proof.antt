@@ -10,4 +10,4 @@ use Rattle.layout.proofs.create.is_long.Tie as tie
 pub is_long_spec : {M : Type 1} → statement M
 is_long_spec =
     tie.close
-    (tie.spec (λ c κs. search rules) (λ c. ap (λ (n : ℕ). eqb (length c.before.before.args.l.now) n) c.end-at.ensures.is))
+    (tie.spec (λ c κs. search rules) (λ c. ap (λ (n : ℕ). eqb (length c.before.before.args.l.now) n) c.end_at.ensures.is))

@@ -23,12 +23,12 @@ add_hours_spec =
     (λ c κs.
     let t = c.before in
     let s = t.before.before.before in (
-      sym (hours_lent_length s.args.r.now s.requires.0.long t.hours_at.ensures),
-      ap (λ (x : List ℕ). roomy most_word s.args.v.now x) (hours_lent s.args.r.now s.requires.0.long t.hours_at.ensures) ∙ s.requires.1.1,
+      sym (hours_lent_length s.args.r.now s.requires.0.long t.hours_at-from.ensures),
+      ap (λ (x : List ℕ). roomy most_word s.args.v.now x) (hours_lent s.args.r.now s.requires.0.long t.hours_at-from.ensures) ∙ s.requires.1.1,
     ))
     (λ c. search rules)
     (λ c.
     let g = c.before.before in
     let t = g.before.before in
     let s = t.before.before.before in
-    hours_back s.args.r.now s.requires.0.long t.hours_at.ensures g.add.new.0 _ g.add.auto.0 (g.add.ensures ∙ ap (λ (x : List ℕ). zip2 ◌+◌ x s.args.v.now) (hours_lent s.args.r.now s.requires.0.long t.hours_at.ensures))))
+    hours_back s.args.r.now s.requires.0.long t.hours_at-from.ensures g.add.new.dst _ g.add.auto.dst (g.add.ensures ∙ ap (λ (x : List ℕ). zip2 ◌+◌ x s.args.v.now) (hours_lent s.args.r.now s.requires.0.long t.hours_at-from.ensures))))

@@ -25,4 +25,4 @@ clear_hours_spec =
     let t = g.before.before in
     let s = t.before.before in
     let long = s.requires.0.0 in
-    hours_back s.args.r.now long t.hours_at.ensures g.clear.new.0 _ g.clear.auto.0 (g.clear.ensures ∙ ap noughts (hours_lent_length s.args.r.now long t.hours_at.ensures))))
+    hours_back s.args.r.now long t.hours_at-from.ensures g.clear.new.dst _ g.clear.auto.dst (g.clear.ensures ∙ ap noughts (hours_lent_length s.args.r.now long t.hours_at-from.ensures))))

@@ -22,4 +22,4 @@ covers_hours_spec =
     (λ c.
     let t = c.before.before in
     let s = t.before.before.before in
-    c.all-covered.ensures ∙ ap (λ (x : List ℕ). covered s.args.v.now x) (hours_lent s.args.r.now s.requires.0.long t.hours_at.ensures)))
+    c.all_covered.ensures ∙ ap (λ (x : List ℕ). covered s.args.v.now x) (hours_lent s.args.r.now s.requires.0.long t.hours_at-from.ensures)))

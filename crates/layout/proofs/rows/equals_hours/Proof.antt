@@ -22,4 +22,4 @@ equals_hours_spec =
     (λ c.
     let t = c.before.before in
     let s = t.before.before.before in
-    c.all-equal.ensures ∙ ap (λ (x : List ℕ). equal s.args.v.now x) (hours_lent s.args.r.now s.requires.0.long t.hours_at.ensures)))
+    c.all_equal.ensures ∙ ap (λ (x : List ℕ). equal s.args.v.now x) (hours_lent s.args.r.now s.requires.0.long t.hours_at-from.ensures)))

@@ -16,8 +16,8 @@ flag_raised_spec =
     (λ c κs. search rules)
     (λ c.
     let a = c.before.before.args in
-    ap (λ (b : Bool). pick b a.flags (a.flags + a.flag)) (sym c.if1.true ∙ c.before.has-flag.ensures))
+    ap (λ (b : Bool). pick b a.flags (a.flags + a.flag)) (sym c.if-has_flag.true ∙ c.before.has_flag.ensures))
     (λ c. search rules)
     (λ c.
     let a = c.before.before.args in
-    ap (λ (b : Bool). pick b a.flags (a.flags + a.flag)) (sym c.if1.false ∙ c.before.has-flag.ensures)))
+    ap (λ (b : Bool). pick b a.flags (a.flags + a.flag)) (sym c.if-has_flag.false ∙ c.before.has_flag.ensures)))

@@ -23,4 +23,4 @@ room_hours_spec =
     (λ c.
     let t = c.before.before in
     let s = t.before.before.before in
-    c.all-roomy.ensures ∙ ap (λ (x : List ℕ). roomy most_megawatts s.args.v.now x) (hours_lent s.args.r.now s.requires.0.long t.hours_at.ensures)))
+    c.all_roomy.ensures ∙ ap (λ (x : List ℕ). roomy most_megawatts s.args.v.now x) (hours_lent s.args.r.now s.requires.0.long t.hours_at-from.ensures)))

@@ -20,4 +20,4 @@ set_hours_spec =
     let g = c.before.before in
     let t = g.before.before in
     let s = t.before.before.before in
-    hours_back s.args.r.now s.requires.0.long t.hours_at.ensures g.copy.new.0 _ g.copy.auto.0 g.copy.ensures))
+    hours_back s.args.r.now s.requires.0.long t.hours_at-from.ensures g.copy.new.dst _ g.copy.auto.dst g.copy.ensures))

@@ -15,4 +15,4 @@ set_word_spec =
     (λ c. search rules)
     (λ c.
     let s = c.before.before in
-    stored s.requires.0 s.requires.1.0 c.row_at.ensures.is s.args.k s.args.v s.requires.1.1))
+    stored s.requires.0 s.requires.1.0 c.row_at-at.ensures.is s.args.k s.args.v s.requires.1.1))

@@ -23,4 +23,4 @@ bounded_hours_spec =
     (λ c.
     let t = c.before.before in
     let s = t.before.before in
-    c.all-within.ensures ∙ ap (λ (x : List ℕ). within most_megawatts x) (hours_lent s.args.r.now s.requires.0.0 t.hours_at.ensures)))
+    c.all_within.ensures ∙ ap (λ (x : List ℕ). within most_megawatts x) (hours_lent s.args.r.now s.requires.0.0 t.hours_at-from.ensures)))

@@ -14,12 +14,12 @@ use Rattle.layout.proofs.sound.sound.Statement.{statement}
 use Rattle.layout.proofs.sound.sound.Tie as tie
 
 -- the head is sound once it was tested, and so is as long as a head
-known : (c : tie.After-shared-slice-known2) → SoundHead c.before.before.before.before.args.l.now
-known c = head_facts _ (sym c.before.before.sound-head.ensures ∙ not-false _ c.before.if1.false)
+known : (c : tie.Else-not-sound_head) → SoundHead c.before.before.before.args.l.now
+known c = head_facts _ (sym c.before.sound_head.ensures ∙ c.if-not-sound_head.false)
 
-read : (c : tie.After-shared-slice-known2) → 8 ≤ length c.before.before.before.before.args.l.now
+read : (c : tie.Else-not-sound_head) → 8 ≤ length c.before.before.before.args.l.now
 read c =
-    let l = c.before.before.before.before.args.l.now in
+    let l = c.before.before.before.args.l.now in
     omega (arith, (known c).long, row_least (hours l) (rows l))
 
 pub sound_spec : {M : Type 1} → statement M
@@ -28,23 +28,23 @@ sound_spec =
     tie.close
     (tie.spec
     (λ c κs. search rules)
-    (λ c. and_stops _ _ (sym c.before.sound-head.ensures ∙ not-true _ c.if1.true))
-    (λ c. omega (arith, read c))
-    (λ c. omega (arith, known c))
+    (λ c. and_stops _ _ (sym c.before.sound_head.ensures ∙ c.if-not-sound_head.true))
     (λ c. omega (arith, read c.before))
     (λ c. omega (arith, known c.before))
     (λ c. omega (arith, read c.before.before))
     (λ c. omega (arith, known c.before.before))
-    (λ c κs. (head_sized (known c.before.before), (known c.before.before).used))
+    (λ c. omega (arith, read c.before.before.before))
+    (λ c. omega (arith, known c.before.before.before))
+    (λ c κs. (head_sized (known c.before.before.before), (known c.before.before.before).used))
     (λ c κs.
-    let k = known c.before.before.before.before in
+    let k = known c.before.before.before.before.before in
     (head_sized k, k.used))
     (λ c.
     let r = c.before.before in
     let h = r.before.before.before.before.before in
-    goes _ h.sound-head.ensures (not-false _ r.before.before.before.before.if1.false)
-    (goes _ r.sound-rows.ensures c.before.if2.true c.unused-zero.ensures))
+    goes _ h.sound_head.ensures r.before.before.before.before.if-not-sound_head.false
+    (goes _ r.sound_rows.ensures c.before.if-sound_rows.true c.unused_zero.ensures))
     (λ c.
     let r = c.before in
     let h = r.before.before.before.before.before in
-    goes _ h.sound-head.ensures (not-false _ r.before.before.before.before.if1.false) (stops _ r.sound-rows.ensures c.if2.false)))
+    goes _ h.sound_head.ensures r.before.before.before.before.if-not-sound_head.false (stops _ r.sound_rows.ensures c.if-sound_rows.false)))

@@ -13,18 +13,18 @@ unfolding sound_head
 sound_head_spec =
     tie.close
     (tie.spec
-    (λ c. short_head c.before.before.args.l.now c.if1.true)
+    (λ c. short_head c.before.before.args.l.now c.if-l-lt-HEAD_WORDS.true)
     (λ c. search rules)
     (λ c. search rules)
     (λ c. search rules)
     (λ c. search rules)
     (λ c. search rules)
     (λ c κs. search rules)
-    (λ c κs. good_sizes _ _ _ _ _ (sym c.before.good-numbers.ensures ∙ c.if2.true))
+    (λ c κs. good_sizes _ _ _ _ _ (sym c.before.good_numbers.ensures ∙ c.if-good_numbers.true))
     (λ c. search rules)
     (λ c. search rules)
     (λ c. search rules)
     (λ c.
     let t = c.before.before.before in
-    goes _ t.before.before.good-numbers.ensures t.before.if2.true (simp t.is-long.ensures))
-    (λ c. stops _ c.before.good-numbers.ensures c.if2.false))
+    goes _ t.before.before.good_numbers.ensures t.before.if-good_numbers.true (simp t.is_long.ensures))
+    (λ c. stops _ c.before.good_numbers.ensures c.if-good_numbers.false))

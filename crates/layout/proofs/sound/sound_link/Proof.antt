@@ -13,4 +13,4 @@ sound_link_spec =
     (λ c. search rules)
     (λ c. search rules)
     (λ c κs. search rules)
-    (λ c. simp (c.before.before.before.relates.ensures, c.is-inside.ensures)))
+    (λ c. simp (c.before.before.before.relates.ensures, c.is_inside.ensures)))

@@ -15,5 +15,5 @@ sound_postings_spec =
     (λ c. search rules)
     (λ c. search rules)
     (λ c κs. search rules)
-    (λ c. and_goes _ _ _ (eq-eqb _ _ c.before.if1.true) c.all-within.ensures)
-    (λ c. let e = ne_eqb _ _ c.if1.false in e ∙ and_stops _ _ e))
+    (λ c. and_goes _ _ _ (eq-eqb _ _ c.before.if-postings-hours.true) c.all_within.ensures)
+    (λ c. let e = ne_eqb _ _ c.if-postings-hours.false in e ∙ and_stops _ _ e))

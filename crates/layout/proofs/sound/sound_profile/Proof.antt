@@ -19,4 +19,4 @@ sound_profile_spec =
     (λ c κs. search rules)
     (λ c. search rules)
     (λ c κs. search rules)
-    (λ c. simp (c.before.before.zero-hours.ensures, c.before.bounded-hours.ensures, c.zero-hours2.ensures)))
+    (λ c. simp (c.before.before.zero_hours.ensures, c.before.bounded_hours.ensures, c.zero_hours-2.ensures)))

@@ -10,7 +10,7 @@ use Rattle.rules.specs.Sound.{sound_profile}
 use Rattle.layout.proofs.sound.sound_profiles.Statement.{statement}
 use Rattle.layout.proofs.sound.sound_profiles.Tie as tie
 
-abbrev invariant-loop : tie.invariant-loop
+abbrev invariant-loop : tie.invariant-loop-p
 invariant-loop r hours p₀ p = Passing profiles (λ k. sound_profile hours r k) profiles p
 
 pub sound_profiles_spec : {M : Type 1} → statement M
@@ -23,10 +23,10 @@ sound_profiles_spec =
     (λ c κs. search rules)
     (λ c.
     let t = c.before in
-    passing_fails t.before.before.loop.invariant (omega arith) (sym t.sound-profile.ensures ∙ not-true _ c.if1.true))
+    passing_fails t.before.before.loop-p.invariant (omega arith) (sym t.sound_profile.ensures ∙ c.if-not-sound_profile.true))
     (λ c. omega arith)
     (λ c. omega arith)
     (λ c.
     let t = c.before in
-    passing_turn t.before.before.loop.invariant (omega arith) (sym t.sound-profile.ensures ∙ not-false _ c.if1.false))
-    (λ c. passing_done c.before.loop.invariant (omega arith)))
+    passing_turn t.before.before.loop-p.invariant (omega arith) (sym t.sound_profile.ensures ∙ c.if-not-sound_profile.false))
+    (λ c. passing_done c.before.loop-p.invariant (omega arith)))

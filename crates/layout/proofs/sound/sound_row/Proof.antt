@@ -17,17 +17,17 @@ sound_row_spec =
     (λ c κs. let s = c.before.before in ap length s.requires.1.1 ∙ row_length s.requires.0 s.requires.1.0)
     (λ c κs.
     let s = c.before.before.before.before in
-    spanned _ _ (ap length s.requires.1.1 ∙ row_length s.requires.0 s.requires.1.0) s.requires.0.hours (sym c.before.sound-words.ensures ∙ c.if1.true))
+    spanned _ _ (ap length s.requires.1.1 ∙ row_length s.requires.0 s.requires.1.0) s.requires.0.hours (sym c.before.sound_words.ensures ∙ c.if-sound_words.true))
     (λ c κs. search rules)
     (λ c.
     let p = c.before.before in
     let w = p.before.before in
     let s = w.before.before.before in
-    goes _ (row_words _ _ _ _ s.requires.1.1 w.sound-words.ensures) p.before.if1.true
-    (goes _ (row_profiles _ _ _ _ s.requires.1.1 p.sound-profiles.ensures) c.before.if2.true c.sound-related.ensures))
+    goes _ (row_words _ _ _ _ s.requires.1.1 w.sound_words.ensures) p.before.if-sound_words.true
+    (goes _ (row_profiles _ _ _ _ s.requires.1.1 p.sound_profiles.ensures) c.before.if-sound_profiles.true c.sound_related.ensures))
     (λ c.
     let w = c.before.before.before in
     let s = w.before.before.before in
-    goes _ (row_words _ _ _ _ s.requires.1.1 w.sound-words.ensures) c.before.before.if1.true
-    (stops _ (row_profiles _ _ _ _ s.requires.1.1 c.before.sound-profiles.ensures) c.if2.false))
-    (λ c. stops _ (row_words _ _ _ _ c.before.before.before.before.requires.1.1 c.before.sound-words.ensures) c.if1.false))
+    goes _ (row_words _ _ _ _ s.requires.1.1 w.sound_words.ensures) c.before.before.if-sound_words.true
+    (stops _ (row_profiles _ _ _ _ s.requires.1.1 c.before.sound_profiles.ensures) c.if-sound_profiles.false))
+    (λ c. stops _ (row_words _ _ _ _ c.before.before.before.before.requires.1.1 c.before.sound_words.ensures) c.if-sound_words.false))

@@ -10,7 +10,7 @@ use Rattle.layout.proofs.Lent.{row_lent}
 use Rattle.layout.proofs.sound.sound_rows.Statement.{statement}
 use Rattle.layout.proofs.sound.sound_rows.Tie as tie
 
-abbrev invariant-loop : tie.invariant-loop
+abbrev invariant-loop : tie.invariant-loop-n
 invariant-loop l rows hours used size n₀ n = Passing used (λ k. sound_row hours l k) used n
 
 pub sound_rows_spec : {M : Type 1} → statement M
@@ -30,13 +30,13 @@ sound_rows_spec =
     (λ c. omega arith)
     (λ c κs.
     let s = c.before.before.before.before.before in
-    (s.requires.0, (omega arith, row_lent s.requires.0 c.before.row_at.ensures)))
+    (s.requires.0, (omega arith, row_lent s.requires.0 c.before.row_at-at.ensures)))
     (λ c.
     let t = c.before in
-    passing_fails t.before.before.before.before.loop.invariant (omega arith) (sym t.sound-row.ensures ∙ not-true _ c.if1.true))
+    passing_fails t.before.before.before.before.loop-n.invariant (omega arith) (sym t.sound_row.ensures ∙ c.if-not-sound_row.true))
     (λ c. omega arith)
     (λ c. omega arith)
     (λ c.
     let t = c.before in
-    passing_turn t.before.before.before.before.loop.invariant (omega arith) (sym t.sound-row.ensures ∙ not-false _ c.if1.false))
-    (λ c. passing_done c.before.loop.invariant (omega arith)))
+    passing_turn t.before.before.before.before.loop-n.invariant (omega arith) (sym t.sound_row.ensures ∙ c.if-not-sound_row.false))
+    (λ c. passing_done c.before.loop-n.invariant (omega arith)))

@@ -21,7 +21,7 @@ sound_words_spec =
     (λ c. search rules)
     (λ c. search rules)
     (λ c. search rules)
-    (λ c. omega (arith, c.shared-slice-known8.given 6))
+    (λ c. omega (arith, c.shared_slice_known-8-1.given 6))
     (λ c. search rules)
     (λ c. search rules)
     (λ c. search rules)
@@ -37,4 +37,4 @@ sound_words_spec =
     let e = p.before.before.before.before.before.before.before.before.before in
     let d = e.before.before in
     let b = d.before.before in
-    simp (b.before.before.from_one.ensures, b.from-one2.ensures, d.is_entity.ensures, e.is-entity2.ensures, p.from-one3.ensures, c.all-zero.ensures)))
+    simp (b.before.before.from_one.ensures, b.from_one-2.ensures, d.is_entity.ensures, e.is_entity-2.ensures, p.from_one-3.ensures, c.all_zero.ensures)))

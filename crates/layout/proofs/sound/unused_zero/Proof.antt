@@ -16,11 +16,11 @@ unused_zero_spec =
     (tie.spec
     (λ c κs. search rules)
     (λ c. search rules)
-    (λ c. let s = c.before.before in omega (arith, c.end-at.ensures.is, s.requires.0.long, row_after s.args.hours s.requires.1))
-    (λ c. let s = c.before.before in omega (arith, c.end-at.ensures.is, s.requires.0.long, row_after s.args.hours s.requires.1))
+    (λ c. let s = c.before.before in omega (arith, c.end_at-at.ensures.is, s.requires.0.long, row_after s.args.hours s.requires.1))
+    (λ c. let s = c.before.before in omega (arith, c.end_at-at.ensures.is, s.requires.0.long, row_after s.args.hours s.requires.1))
     (λ c. search rules)
     (λ c κs. search rules)
     (λ c.
     let e = c.before.before in
     let l = e.before.before.args.l.now in
-    c.all-zero.ensures ∙ ap zeros (rest l e.end-at.result) ∙ ap (λ (a : ℕ). zeros (drop a l)) e.end-at.ensures.is))
+    c.all_zero.ensures ∙ ap zeros (rest l e.end_at-at.result) ∙ ap (λ (a : ℕ). zeros (drop a l)) e.end_at-at.ensures.is))

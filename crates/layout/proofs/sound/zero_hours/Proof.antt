@@ -22,4 +22,4 @@ zero_hours_spec =
     (λ c.
     let t = c.before.before in
     let s = t.before.before in
-    c.all-zero.ensures ∙ ap (λ (x : List ℕ). zeros x) (hours_lent s.args.r.now s.requires.0.0 t.hours_at.ensures)))
+    c.all_zero.ensures ∙ ap (λ (x : List ℕ). zeros x) (hours_lent s.args.r.now s.requires.0.0 t.hours_at-from.ensures)))
