@@ -1,3 +1,5 @@
 // The moves between statuses, and the checks that several kinds of action share.
+#![tactic(auto)]
+
 pub mod checks;
 pub mod moves;

@@ -1,4 +1,6 @@
 // A contest for a firm row, on the words of a ledger that is lent. Postings are only read: no contest alters them.
+#![tactic(auto)]
+
 pub mod number;
 pub mod playing;
 

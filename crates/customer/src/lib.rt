@@ -1,4 +1,6 @@
 // 3 Customer status: its number, whether it would carry a word over 100,000, and what it writes.
+#![tactic(auto)]
+
 ghost use Rattle.std.specs.Prelude.{◌≡◌, true, false, ◌&&◌, ◌<◌, ◌≤◌, length};
 ghost use Rattle.words.specs.Lists.{equal};
 ghost use Rattle.rules.specs.Numbers.{row_words, most_hours, most_price, approved};

@@ -1,4 +1,6 @@
 // A ledger's words: where they lie, creation, soundness, and whether a row is firm.
+#![tactic(auto)]
+
 pub mod class;
 pub mod create;
 pub mod numbers;

@@ -1,4 +1,6 @@
 // Every action: its number, the ledger and the postings that it leaves, and its answer.
+#![tactic(auto)]
+
 pub mod answering;
 pub mod applying;
 pub mod numbering;

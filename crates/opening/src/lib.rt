@@ -1,4 +1,6 @@
 // Opening: whether a ledger's rows balance, worked out from its words alone.
+#![tactic(auto)]
+
 pub mod chains;
 pub mod sums;
 

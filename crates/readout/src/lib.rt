@@ -1,4 +1,6 @@
 // Reading out: the profile in force of a row, and its charge.
+#![tactic(auto)]
+
 ghost use Rattle.std.specs.Prelude.{◌≡◌, true, ◌*◌, ◌<◌, ◌≤◌, length};
 ghost use Rattle.words.specs.Lists.{total};
 ghost use Rattle.rules.specs.Pick.{pick};
@@ -19,7 +21,7 @@ use megawatts::reading::{count_of, hours_total, is_confirmed, span_at};
 use rules::Reference;
 
 // A number, and where it is 0 the charge in cents.
-#[derive(Drop)]
+#[derive(Clone, Copy)]
 pub struct Charged {
     pub number: u32,
     pub cents: u64,

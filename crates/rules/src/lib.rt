@@ -1,10 +1,12 @@
 // The hourly reservation ledger: what is asked of it, and what it answers. specs/ holds the rules.
+#![tactic(auto)]
+
 ghost use Rattle.std.specs.Prelude.{◌≡◌};
 ghost use Rattle.rules.specs.Layout.{row_of};
 
 // A request to the ledger. Fields that its kind does not read are ignored. A profile is `length` words from `offset` on, of the words lent with it.
 #[repr(C)]
-#[derive(Drop)]
+#[derive(Clone, Copy)]
 pub struct Action {
     pub kind: u32,
     pub actor: u32,
@@ -27,7 +29,7 @@ pub struct Action {
 
 // A number (0: accepted), and of an accepted action its reference, the status before and after, and the MW-hours moved.
 #[repr(C)]
-#[derive(Drop)]
+#[derive(Clone, Copy)]
 pub struct Answer {
     pub number: u32,
     pub reference: u32,
@@ -37,7 +39,7 @@ pub struct Answer {
 }
 
 // A contest for a firm row, which its seller runs; challenger and holder are the greatest terms of the two, in hours.
-#[derive(Drop)]
+#[derive(Clone, Copy)]
 pub struct Contest {
     pub actor: u32,
     pub reference: u32,
@@ -46,7 +48,7 @@ pub struct Contest {
 }
 
 // How a contest ends: the challenger stopped; the holder yielded; a list of moves ran out; a move was refused.
-#[derive(Drop)]
+#[derive(Clone, Copy)]
 pub enum Ending {
     Kept,
     Lost,
@@ -55,11 +57,11 @@ pub enum Ending {
 }
 
 // ASSIGNMENT_REF, from 1.
-#[derive(Drop)]
+#[derive(Clone, Copy)]
 pub struct Reference(pub u32);
 
 // The number of a row, from 0.
-#[derive(Drop)]
+#[derive(Clone, Copy)]
 pub struct RowNumber(pub usize);
 
 // Reference n is row n - 1.

@@ -1,3 +1,5 @@
 // 1 Submit: its checks, and the new row.
+#![tactic(auto)]
+
 pub mod checking;
 pub mod submitting;

@@ -1,4 +1,6 @@
 // Annulments in order: whether references can be annulled one after another, worked out from the ledger as it stands.
+#![tactic(auto)]
+
 pub mod backs;
 pub mod carrying;
 pub mod fitting;

@@ -1,4 +1,6 @@
 // Functions on words that the caller lends.
+#![tactic(auto)]
+
 ghost use Rattle.std.specs.Prelude.{◌≡◌, true, ◌+◌, ◌-◌, ◌≤◌, length};
 ghost use Rattle.words.specs.Lists.{part, splice, Apart, zip2, noughts, within, zeros, covered, roomy, equal, first_short, total as total_of, most_word};
 

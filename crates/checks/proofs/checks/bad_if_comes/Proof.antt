@@ -11,5 +11,5 @@ bad_if_comes_spec =
     (tie.spec
     (λ c κs. search rules)
     (λ c κs. search rules)
-    (λ c. and_goes _ _ _ (sym c.before.before.comes.ensures ∙ c.before.if1.true) c.bad-profile.ensures)
-    (λ c. stops _ c.before.comes.ensures c.if1.false))
+    (λ c. and_goes _ _ _ (sym c.before.before.comes.ensures ∙ c.before.if-comes.true) c.bad_profile.ensures)
+    (λ c. stops _ c.before.comes.ensures c.if-comes.false))

@@ -16,17 +16,17 @@ bad_profile_spec =
     tie.close
     (tie.spec
     (λ c κs. search rules)
-    (λ c. or_stops _ _ (sym c.before.bad-words.ensures ∙ c.if1.true))
+    (λ c. or_stops _ _ (sym c.before.bad_words.ensures ∙ c.if-bad_words.true))
     (λ c. search rules)
     (λ c. search rules)
     (λ c. search rules)
     (λ c. search rules)
     (λ c. search rules)
     (λ c. search rules)
-    (λ c. let b = c.before.before.before in omega (arith, (words_passed _ _ _ (sym b.bad-words.ensures ∙ c.before.before.if1.false)).fits))
+    (λ c. let b = c.before.before.before in omega (arith, (words_passed _ _ _ (sym b.bad_words.ensures ∙ c.before.before.if-bad_words.false)).fits))
     (λ c κs. search rules)
     (λ c.
     let b = c.before.before.before.before.before in
     let s = b.before.before in
-    let e = sym b.bad-words.ensures ∙ c.before.before.before.before.if1.false in
-    or_goes _ _ _ e (c.all-zero.ensures ∙ ap zeros (profile_lent s.args.words.now s.args.a (words_passed _ _ _ e).fits))))
+    let e = sym b.bad_words.ensures ∙ c.before.before.before.before.if-bad_words.false in
+    or_goes _ _ _ e (c.all_zero.ensures ∙ ap zeros (profile_lent s.args.words.now s.args.a (words_passed _ _ _ e).fits))))

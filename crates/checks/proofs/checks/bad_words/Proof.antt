@@ -21,8 +21,8 @@ bad_words_spec =
     (λ c. search rules)
     (λ c. search rules)
     (λ c. search rules)
-    (λ c. or_stops _ _ (lt-ltb _ _ c.if1.true))
-    (λ c. or_goes _ _ _ (le-ltb _ _ c.before.if1.false) (or_stops _ _ (ap not (ne_eqb _ _ c.if2.true))))
+    (λ c. or_stops _ _ (lt-ltb _ _ c.if-words-from.true))
+    (λ c. or_goes _ _ _ (le-ltb _ _ c.before.if-words-from.false) (or_stops _ _ (ap not (ne_eqb _ _ c.if-count-n.true))))
     (λ c. search rules)
     (λ c. search rules)
     (λ c. search rules)
@@ -32,7 +32,7 @@ bad_words_spec =
     (λ c.
     let f = c.before.before.before in
     let s = f.before.before.before.before in
-    or_goes _ _ _ (le-ltb _ _ f.if1.false)
-    (or_goes _ _ _ (ap not (eq-eqb _ _ c.before.before.if2.false))
-    (ap not (c.all-within.ensures
-    ∙ ap (λ (x : List ℕ). within most_megawatts x) (lent s.args.words.now s.args.a.offset s.args.a.offset s.args.a.length refl f.if1.false))))))
+    or_goes _ _ _ (le-ltb _ _ f.if-words-from.false)
+    (or_goes _ _ _ (ap not (eq-eqb _ _ c.before.before.if-count-n.false))
+    (ap not (c.all_within.ensures
+    ∙ ap (λ (x : List ℕ). within most_megawatts x) (lent s.args.words.now s.args.a.offset s.args.a.offset s.args.a.length refl f.if-words-from.false))))))

@@ -15,4 +15,4 @@ is_open_spec =
     (tie.spec
     (λ c κs. search rules)
     (λ c κs. search rules)
-    (λ c. c.is-in.ensures ∙ ap (λ (s : ℕ). s among opens) c.before.word_at.ensures))
+    (λ c. c.is_in.ensures ∙ ap (λ (s : ℕ). s among opens) c.before.word_at.ensures))

@@ -14,4 +14,4 @@ no_reference_spec =
     (tie.spec
     (λ c. search rules)
     (λ c κs. search rules)
-    (λ c. ap not c.is-from.ensures))
+    (λ c. ap not c.is_from.ensures))

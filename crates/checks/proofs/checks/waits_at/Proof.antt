@@ -21,8 +21,8 @@ waits_at_spec =
     (λ c.
     let f = c.before.before in
     and_goes _ _ _
-    (ap (λ (k : ℕ). has_flag preconfirmed k) (sym f.before.word_at.ensures) ∙ sym f.has-flag.ensures ∙ c.before.if1.true)
-    (ap (λ (k : ℕ). eqb k f.before.before.before.args.status) c.word-at2.ensures))
+    (ap (λ (k : ℕ). has_flag preconfirmed k) (sym f.before.word_at-flags.ensures) ∙ sym f.has_flag.ensures ∙ c.before.if-has_flag.true)
+    (ap (λ (k : ℕ). eqb k f.before.before.before.args.status) c.word_at.ensures))
     (λ c.
     let f = c.before in
-    stops _ (f.has-flag.ensures ∙ ap (λ (k : ℕ). has_flag preconfirmed k) f.before.word_at.ensures) c.if1.false))
+    stops _ (f.has_flag.ensures ∙ ap (λ (k : ℕ). has_flag preconfirmed k) f.before.word_at-flags.ensures) c.if-has_flag.false))

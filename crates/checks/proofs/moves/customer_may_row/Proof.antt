@@ -15,4 +15,4 @@ customer_may_row_spec =
     (λ c κs. search rules)
     (λ c κs. search rules)
     (λ c κs. search rules)
-    (λ c. c.customer_may_lem.ensures ∙ cc (c.before.has-flag2.ensures, c.before.before.has-flag.ensures, c.before.before.before.word-at2.ensures, c.before.before.before.before.word_at.ensures)))
+    (λ c. c.customer_may.ensures ∙ cc (c.before.has_flag-countered.ensures, c.before.before.has_flag-preconfirmed.ensures, c.before.before.before.word_at-flags.ensures, c.before.before.before.before.word_at-status.ensures)))

@@ -10,5 +10,5 @@ is_in_spec =
     tie.close
     (tie.spec
     (λ c. search rules)
-    (λ c. simp (in_members, le-leb _ _ c.if1.true))
-    (λ c. simp (in_members, lt-leb _ _ c.if1.false)))
+    (λ c. simp (in_members, le-leb _ _ c.if-status-le-MOST_STATUS.true))
+    (λ c. simp (in_members, lt-leb _ _ c.if-status-le-MOST_STATUS.false)))

@@ -16,4 +16,4 @@ seller_may_row_spec =
     (λ c κs. search rules)
     (λ c κs. search rules)
     (λ c κs. search rules)
-    (λ c. let f = c.before.before.before in c.seller_may_lem.ensures ∙ cc (c.before.word-at3.ensures, c.before.before.has-flag2.ensures, f.has-flag.ensures, f.before.word-at2.ensures, f.before.before.word_at.ensures)))
+    (λ c. let f = c.before.before.before in c.seller_may.ensures ∙ cc (c.before.word_at-relinquish.ensures, c.before.before.has_flag-coordinated.ensures, f.has_flag-preconfirmed.ensures, f.before.word_at-flags.ensures, f.before.before.word_at-status.ensures)))
