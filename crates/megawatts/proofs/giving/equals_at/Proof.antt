@@ -25,6 +25,4 @@ equals_at_spec =
     (λ c. search rules)
     (λ c κs. search rules)
     (λ c.
-    let t = c.before.before in
-    let s = t.before.before.before in
-    c.equals-hours.ensures ∙ ap (λ (r : List ℕ). equal s.args.mw.now (hours_of s.args.hours available_part s.args.start (length s.args.mw.now) r)) (row_lent s.requires.0 t.row_at.ensures)))
+    c.equals_hours.ensures ∙ ap (λ (r : List ℕ). equal c.args.mw.now (hours_of c.args.hours available_part c.args.start (length c.args.mw.now) r)) (row_lent c.requires.0 c.row_at-at.ensures)))

@@ -22,6 +22,4 @@ full_at_spec =
     (λ c. search rules)
     (λ c κs. search rules)
     (λ c.
-    let t = c.before.before in
-    let s = t.before.before.before in
-    c.full-row.ensures ∙ ap (λ (r : List ℕ). full s.args.hours s.args.start s.args.mw.now r) (row_lent s.requires.0 t.row_at.ensures)))
+    c.full_row.ensures ∙ ap (λ (r : List ℕ). full c.args.hours c.args.start c.args.mw.now r) (row_lent c.requires.0 c.row_at-at.ensures)))

@@ -11,4 +11,4 @@ full_row_spec =
     (tie.spec
     (λ c κs. search rules)
     (λ c κs. search rules)
-    (λ c. cc (c.room-hours.ensures, c.before.returns_to.ensures.0)))
+    (λ c. cc (c.room_hours.ensures, c.returns_to-p.ensures.0)))

@@ -23,14 +23,10 @@ give_back_spec =
     (λ c. search rules)
     (λ c. search rules)
     (λ c κs.
-    let t = c.before in
-    let s = t.before.before.before in (
-      record { long = row_lent_length s.requires.0 t.row_at.ensures; fits = omega arith },
-      (s.requires.0.hours, ap (λ (r : List ℕ). full s.args.hours s.args.start s.args.mw.now r) (row_lent s.requires.0 t.row_at.ensures) ∙ s.requires.1.1),
+    (
+      record { long = row_lent_length c.requires.0 c.row_at-at.ensures; fits = omega arith },
+      (c.requires.0.hours, ap (λ (r : List ℕ). full c.args.hours c.args.start c.args.mw.now r) (row_lent c.requires.0 c.row_at-at.ensures) ∙ c.requires.1.1),
     ))
     (λ c. search rules)
     (λ c.
-    let g = c.before.before in
-    let t = g.before.before in
-    let s = t.before.before.before in
-    row_back s.requires.0 t.row_at.ensures (give_back s.args.hours s.args.start s.args.mw.now) g.give-row.new.0 g.give-row.auto.0 g.give-row.ensures))
+    row_back c.requires.0 c.row_at-at.ensures (give_back c.args.hours c.args.start c.args.mw.now) c.give_row.new.r c.give_row.auto.r c.give_row.ensures))

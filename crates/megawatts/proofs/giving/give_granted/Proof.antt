@@ -14,23 +14,11 @@ give_granted_spec =
     (λ c κs. search rules)
     (λ c κs. search rules)
     (λ c κs.
-    let t = c.before.before.before in
-    let s = t.before.before.before.before.before in
-    let w = own_words s.requires.0 in
-    (sized s.requires.0, (s.requires.1.0.0, omega (arith, w.starts, w.stops, t.count_of.ensures.0, t.before.before.start_of_lem.ensures))))
+    let w = own_words c.requires.0 in
+    (sized c.requires.0, (c.requires.1.0.0, omega (arith, w.starts, w.stops, c.count_of-count.ensures.0, c.start_of-start.ensures))))
     (λ c κs.
-    let t = c.before in
-    let f = t.before.before in
-    let k = f.before.before in
-    let i = k.before.before in
-    let s = i.before.before.before in
-    let g = granted_apart s.requires.0 s.requires.1.0.0 i.start_of_lem.ensures k.count_of.ensures.0 f.span_at.ensures t.returns-at.ensures s.requires.1.0.1 in
-    (g, granted_room s.requires.0 s.requires.1.0.0 i.start_of_lem.ensures k.count_of.ensures.0 f.span_at.ensures t.returns-at.ensures s.requires.1.1))
+    let g = granted_apart c.requires.0 c.requires.1.0.0 c.start_of-start.ensures c.count_of-count.ensures.0 c.span_at-from.ensures c.returns_at-to.ensures c.requires.1.0.1 in
+    (g, granted_room c.requires.0 c.requires.1.0.0 c.start_of-start.ensures c.count_of-count.ensures.0 c.span_at-from.ensures c.returns_at-to.ensures c.requires.1.1))
     (λ c. search rules)
     (λ c.
-    let t = c.before.before.before.before in
-    let f = t.before.before in
-    let k = f.before.before in
-    let i = k.before.before in
-    let s = i.before.before.before in
-    c.before.before.add-part.ensures ∙ granted_given_lem s.requires.0 s.requires.1.0.0 i.start_of_lem.ensures k.count_of.ensures.0 f.span_at.ensures t.returns-at.ensures))
+    c.add_part.ensures ∙ granted_given_lem c.requires.0 c.requires.1.0.0 c.start_of-start.ensures c.count_of-count.ensures.0 c.span_at-from.ensures c.returns_at-to.ensures))

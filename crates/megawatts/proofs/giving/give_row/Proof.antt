@@ -12,9 +12,7 @@ give_row_spec =
     (tie.spec
     (λ c κs. search rules)
     (λ c κs.
-    let t = c.before in
-    let s = t.before.before.before.before in
-    let e = t.returns_to.ensures.0 in
-    (s.requires.0, ((s.requires.1.0, t.returns_to.ensures.1), cc (not_full s.args.hours s.args.start s.args.mw.now s.args.r.now s.requires.1.1, e))))
+    let e = c.returns_to-p.ensures.0 in
+    (c.requires.0, ((c.requires.1.0, c.returns_to-p.ensures.1), cc (not_full c.args.hours c.args.start c.args.mw.now c.args.r.now c.requires.1.1, e))))
     (λ c. search rules)
-    (λ c. cc (c.before.before.add-hours.ensures, c.before.before.before.before.returns_to.ensures.0)))
+    (λ c. cc (c.add_hours.ensures, c.returns_to-p.ensures.0)))

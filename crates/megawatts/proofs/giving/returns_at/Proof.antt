@@ -23,6 +23,4 @@ returns_at_spec =
     (λ c κs. search rules)
     (λ c κs. search rules)
     (λ c.
-    let t = c.before.before.before in
-    let s = t.before.before in
-    subst (λ (q : ℕ). HoursIn s.args.l.now s.args.hours s.args.m q s.args.start s.args.count c.hours_in.result) (c.before.returns_to.ensures.0 ∙ ap returns_to (row_lent s.requires.0 t.row_at.ensures)) c.hours_in.ensures))
+    subst (λ (q : ℕ). HoursIn c.args.l.now c.args.hours c.args.m q c.args.start c.args.count c.hours_in.result) (c.returns_to-p.ensures.0 ∙ ap returns_to (row_lent c.requires.0 c.row_at-at.ensures)) c.hours_in.ensures))

@@ -28,14 +28,10 @@ take_from_spec =
     (λ c. search rules)
     (λ c. search rules)
     (λ c κs.
-    let t = c.before in
-    let s = t.before.before.before in (
-      record { long = row_lent_length s.requires.0 t.row_at.ensures; fits = omega arith },
-      ((s.requires.0.hours, lit< tt), ap (λ (r : List ℕ). covered s.args.mw.now (hours_of s.args.hours available_part s.args.start (length s.args.mw.now) r)) (row_lent s.requires.0 t.row_at.ensures) ∙ s.requires.1.1),
+    (
+      record { long = row_lent_length c.requires.0 c.row_at-at.ensures; fits = omega arith },
+      ((c.requires.0.hours, lit< tt), ap (λ (r : List ℕ). covered c.args.mw.now (hours_of c.args.hours available_part c.args.start (length c.args.mw.now) r)) (row_lent c.requires.0 c.row_at-at.ensures) ∙ c.requires.1.1),
     ))
     (λ c. search rules)
     (λ c.
-    let g = c.before.before in
-    let t = g.before.before in
-    let s = t.before.before.before in
-    row_back s.requires.0 t.row_at.ensures (take_from s.args.hours s.args.start s.args.mw.now) g.less-hours.new.0 g.less-hours.auto.0 g.less-hours.ensures))
+    row_back c.requires.0 c.row_at-at.ensures (take_from c.args.hours c.args.start c.args.mw.now) c.less_hours.new.r c.less_hours.auto.r c.less_hours.ensures))

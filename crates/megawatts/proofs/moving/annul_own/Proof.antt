@@ -24,15 +24,10 @@ annul_own_spec =
     (λ c. search rules)
     (λ c. search rules)
     (λ c κs.
-    let t = c.before in
-    let s = t.before.before in
-    let e = row_lent s.requires.0 t.row_at.ensures in
-    let f : get_or (take (t.row_at.result + row_size s.args.hours - t.row_at.result) (drop t.row_at.result s.args.l.now)) 5 0 ≡ start (row s.args.hours s.args.l.now s.args.n) = ap (λ (r : List ℕ). get_or r 5 0) e in
-    let g : get_or (take (t.row_at.result + row_size s.args.hours - t.row_at.result) (drop t.row_at.result s.args.l.now)) 6 0 ≡ stop (row s.args.hours s.args.l.now s.args.n) = ap (λ (r : List ℕ). get_or r 6 0) e in
-    ((row_lent_length s.requires.0 t.row_at.ensures, s.requires.0.hours), (omega (arith, f, g, s.requires.1), omega (arith, g, s.requires.1))))
+    let e = row_lent c.requires.0 c.row_at-at.ensures in
+    let f : get_or (take (c.row_at-at.result + row_size c.args.hours - c.row_at-at.result) (drop c.row_at-at.result c.args.l.now)) 5 0 ≡ start (row c.args.hours c.args.l.now c.args.n) = ap (λ (r : List ℕ). get_or r 5 0) e in
+    let g : get_or (take (c.row_at-at.result + row_size c.args.hours - c.row_at-at.result) (drop c.row_at-at.result c.args.l.now)) 6 0 ≡ stop (row c.args.hours c.args.l.now c.args.n) = ap (λ (r : List ℕ). get_or r 6 0) e in
+    ((row_lent_length c.requires.0 c.row_at-at.ensures, c.requires.0.hours), (omega (arith, f, g, c.requires.1), omega (arith, g, c.requires.1))))
     (λ c. search rules)
     (λ c.
-    let g = c.before.before in
-    let t = g.before.before in
-    let s = t.before.before in
-    row_back s.requires.0 t.row_at.ensures (annulled_row s.args.hours) g.annul-row.new.0 g.annul-row.auto.0 g.annul-row.ensures))
+    row_back c.requires.0 c.row_at-at.ensures (annulled_row c.args.hours) c.annul_row.new.r c.annul_row.auto.r c.annul_row.ensures))

@@ -17,4 +17,4 @@ annul_row_spec =
     (λ c κs. search rules)
     (λ c. search rules)
     (λ c. search rules)
-    (λ c. cc c.before.before.clear-hours.ensures))
+    (λ c. cc c.clear_hours.ensures))

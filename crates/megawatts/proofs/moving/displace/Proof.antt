@@ -23,15 +23,10 @@ displace_spec =
     (λ c. search rules)
     (λ c. search rules)
     (λ c. search rules)
-    (λ c. omega (arith, (sized c.before.before.requires.0).long))
+    (λ c. omega (arith, (sized c.requires.0).long))
     (λ c κs.
-    let t = c.before in
-    let s = t.before.before in
-    let k = lent_spanned s.requires.0 t.row_at.ensures in
-    (k.0, (k.1, ap (λ (r : List ℕ). over_displacing s.args.hours r) (row_lent (sized s.requires.0) t.row_at.ensures) ∙ s.requires.1)))
+    let k = lent_spanned c.requires.0 c.row_at-at.ensures in
+    (k.0, (k.1, ap (λ (r : List ℕ). over_displacing c.args.hours r) (row_lent (sized c.requires.0) c.row_at-at.ensures) ∙ c.requires.1)))
     (λ c. search rules)
     (λ c.
-    let g = c.before.before in
-    let t = g.before.before in
-    let s = t.before.before in
-    row_back (sized s.requires.0) t.row_at.ensures (displaced_row s.args.hours) g.displace-row.new.0 g.displace-row.auto.0 g.displace-row.ensures))
+    row_back (sized c.requires.0) c.row_at-at.ensures (displaced_row c.args.hours) c.displace_row.new.r c.displace_row.auto.r c.displace_row.ensures))

@@ -20,17 +20,11 @@ displace_row_spec =
     (λ c κs. search rules)
     (λ c κs. search rules)
     (λ c κs.
-    let a = c.before.before in
-    let b = c.before in
-    let s = a.before.before.before.before in
-    let long = s.requires.0.0 in
-    (displace_apart s.args.r.now long a.hours_at.ensures b.hours-at2.ensures s.requires.1.0.0 s.requires.1.0.1, displace_room s.args.r.now long a.hours_at.ensures b.hours-at2.ensures s.requires.1.1))
+    let long = c.requires.0.0 in
+    (displace_apart c.args.r.now long c.hours_at-to.ensures c.hours_at-from.ensures c.requires.1.0.0 c.requires.1.0.1, displace_room c.args.r.now long c.hours_at-to.ensures c.hours_at-from.ensures c.requires.1.1))
     (λ c κs. search rules)
     (λ c. search rules)
-    (λ c. simp length-set (c.before.before.clear-hours.auto.0 ∙ c.before.before.before.before.before.before.add-part.auto.0))
+    (λ c. simp length-set (c.clear_hours.auto.r ∙ c.add_part.auto.l))
     (λ c.
-    let g = c.before.before.before.before.before.before in
-    let a = g.before.before.before in
-    let s = a.before.before.before.before in
-    let e = g.add-part.ensures ∙ displace_splice s.args.r.now s.requires.0.0 a.hours_at.ensures g.before.before.hours-at2.ensures in
-    cc (c.before.before.clear-hours.ensures, e)))
+    let e = c.add_part.ensures ∙ displace_splice c.args.r.now c.requires.0.0 c.hours_at-to.ensures c.hours_at-from.ensures in
+    cc (c.clear_hours.ensures, e)))

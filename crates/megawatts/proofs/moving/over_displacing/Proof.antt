@@ -30,9 +30,7 @@ over_displacing_spec =
     (λ c. search rules)
     (λ c κs. search rules)
     (λ c.
-    let k = c.before.before.before.before.before in
-    let s = k.before.before in
-    let r = row s.args.hours s.args.l.now s.args.n in
-    let a : take (c.before.before.before.before.span_at.result + k.count_of.result - c.before.before.before.before.span_at.result) (drop c.before.before.before.before.span_at.result s.args.l.now) ≡ available s.args.hours r = span_lent s.requires (lit< tt) c.before.before.before.before.span_at.ensures k.count_of.result k.count_of.ensures.0 in
-    let d : take (c.before.before.before.span-at2.result + k.count_of.result - c.before.before.before.span-at2.result) (drop c.before.before.before.span-at2.result s.args.l.now) ≡ displaced s.args.hours r = span_lent s.requires (lit< tt) c.before.before.before.span-at2.ensures k.count_of.result k.count_of.ensures.0 in
-    cc (c.all-roomy.ensures, a, d)))
+    let r = row c.args.hours c.args.l.now c.args.n in
+    let a : take (c.span_at-a.result + c.count_of-count.result - c.span_at-a.result) (drop c.span_at-a.result c.args.l.now) ≡ available c.args.hours r = span_lent c.requires (lit< tt) c.span_at-a.ensures c.count_of-count.result c.count_of-count.ensures.0 in
+    let d : take (c.span_at-d.result + c.count_of-count.result - c.span_at-d.result) (drop c.span_at-d.result c.args.l.now) ≡ displaced c.args.hours r = span_lent c.requires (lit< tt) c.span_at-d.ensures c.count_of-count.result c.count_of-count.ensures.0 in
+    cc (c.all_roomy.ensures, a, d)))

@@ -22,13 +22,9 @@ over_reducing_spec =
     (λ c. search rules)
     (λ c. search rules)
     (λ c. search rules)
-    (λ c. omega (arith, (sized c.before.before.before.requires.0).long))
+    (λ c. omega (arith, (sized c.requires.0).long))
     (λ c κs.
-    let t = c.before in
-    let s = t.before.before.before in
-    let k = lent_spanned s.requires.0 t.row_at.ensures in
-    (k.0, (k.1, s.requires.1 ∙ sym (ap (λ (r : List ℕ). span_hours r) (row_lent (sized s.requires.0) t.row_at.ensures)))))
+    let k = lent_spanned c.requires.0 c.row_at-at.ensures in
+    (k.0, (k.1, c.requires.1 ∙ sym (ap (λ (r : List ℕ). span_hours r) (row_lent (sized c.requires.0) c.row_at-at.ensures)))))
     (λ c.
-    let t = c.before.before in
-    let s = t.before.before.before in
-    c.over-reducing-row.ensures ∙ ap (λ (r : List ℕ). over_reducing s.args.hours s.args.mw.now r) (row_lent (sized s.requires.0) t.row_at.ensures)))
+    c.over_reducing_row.ensures ∙ ap (λ (r : List ℕ). over_reducing c.args.hours c.args.mw.now r) (row_lent (sized c.requires.0) c.row_at-at.ensures)))

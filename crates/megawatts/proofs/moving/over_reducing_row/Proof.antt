@@ -14,8 +14,6 @@ over_reducing_row_spec =
     (λ c. search rules)
     (λ c. search rules)
     (λ c κs.
-    let s = c.before.before.before in
-    (reduce_room s.args.r.now s.args.mw.now s.requires.0.0 s.requires.1.0.0 s.requires.1.0.1 s.requires.1.1, (s.requires.0.1, lit< tt)))
+    (reduce_room c.args.r.now c.args.mw.now c.requires.0.0 c.requires.1.0.0 c.requires.1.0.1 c.requires.1.1, (c.requires.0.1, lit< tt)))
     (λ c.
-    let s = c.before.before.before.before in
-    ap (λ (b : Bool). not b) c.room-hours.ensures ∙ reduce_over s.args.r.now s.args.mw.now s.requires.0.0 s.requires.1.0.0 s.requires.1.0.1 s.requires.1.1))
+    ap (λ (b : Bool). not b) c.room_hours.ensures ∙ reduce_over c.args.r.now c.args.mw.now c.requires.0.0 c.requires.1.0.0 c.requires.1.0.1 c.requires.1.1))

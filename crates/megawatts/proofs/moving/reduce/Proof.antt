@@ -25,16 +25,11 @@ reduce_spec =
     (λ c. search rules)
     (λ c. search rules)
     (λ c. search rules)
-    (λ c. omega (arith, (sized c.before.before.before.requires.0).long))
+    (λ c. omega (arith, (sized c.requires.0).long))
     (λ c κs.
-    let t = c.before in
-    let s = t.before.before.before in
-    let k = lent_spanned s.requires.0 t.row_at.ensures in
-    let e = row_lent (sized s.requires.0) t.row_at.ensures in
-    (k.0, (k.1, (s.requires.1.0 ∙ sym (ap (λ (r : List ℕ). span_hours r) e), (ap (λ (r : List ℕ). covered s.args.mw.now (available s.args.hours r)) e ∙ s.requires.1.1.0, ap (λ (r : List ℕ). over_reducing s.args.hours s.args.mw.now r) e ∙ s.requires.1.1.1)))))
+    let k = lent_spanned c.requires.0 c.row_at-at.ensures in
+    let e = row_lent (sized c.requires.0) c.row_at-at.ensures in
+    (k.0, (k.1, (c.requires.1.0 ∙ sym (ap (λ (r : List ℕ). span_hours r) e), (ap (λ (r : List ℕ). covered c.args.mw.now (available c.args.hours r)) e ∙ c.requires.1.1.0, ap (λ (r : List ℕ). over_reducing c.args.hours c.args.mw.now r) e ∙ c.requires.1.1.1)))))
     (λ c. search rules)
     (λ c.
-    let g = c.before.before in
-    let t = g.before.before in
-    let s = t.before.before.before in
-    row_back (sized s.requires.0) t.row_at.ensures (λ r. reduced_row s.args.hours (start r) s.args.mw.now r) g.reduce-row.new.0 g.reduce-row.auto.0 g.reduce-row.ensures))
+    row_back (sized c.requires.0) c.row_at-at.ensures (λ r. reduced_row c.args.hours (start r) c.args.mw.now r) c.reduce_row.new.r c.reduce_row.auto.r c.reduce_row.ensures))

@@ -22,21 +22,16 @@ reduce_row_spec =
     (λ c. search rules)
     (λ c. search rules)
     (λ c κs.
-    let s = c.before.before.before.before in
-    let r = s.args.r.now in
-    let mw = s.args.mw.now in
-    (reduce_room r mw s.requires.0.0 s.requires.1.0.0 s.requires.1.0.1 s.requires.1.1.0, ((s.requires.0.1, lit< tt), reduce_covered r mw s.requires.0.0 s.requires.1.0.0 s.requires.1.0.1 s.requires.1.1.0 s.requires.1.1.1.0)))
+    let r = c.args.r.now in
+    let mw = c.args.mw.now in
+    (reduce_room r mw c.requires.0.0 c.requires.1.0.0 c.requires.1.0.1 c.requires.1.1.0, ((c.requires.0.1, lit< tt), reduce_covered r mw c.requires.0.0 c.requires.1.0.0 c.requires.1.0.1 c.requires.1.1.0 c.requires.1.1.1.0)))
     (λ c κs.
-    let t = c.before.before.before in
-    let s = t.before.before.before.before.before in
-    let r = s.args.r.now in
-    let mw = s.args.mw.now in
-    let e = t.less-hours.ensures in (
-      subst (λ (q : List ℕ). Room s.args.hours (start r) mw q) (sym e) (taken_room r mw s.requires.0.0 s.requires.1.0.0 s.requires.1.0.1 s.requires.1.1.0),
-      ((s.requires.0.1, lit< tt), ap (λ (q : List ℕ). roomy most_word mw (hours_of s.args.hours reduced_part (start r) (length mw) q)) e ∙ taken_roomy r mw s.requires.0.0 s.requires.1.0.0 s.requires.1.0.1 s.requires.1.1.0 s.requires.1.1.1.1),
+    let r = c.args.r.now in
+    let mw = c.args.mw.now in
+    let e = c.less_hours.ensures in (
+      subst (λ (q : List ℕ). Room c.args.hours (start r) mw q) (sym e) (taken_room r mw c.requires.0.0 c.requires.1.0.0 c.requires.1.0.1 c.requires.1.1.0),
+      ((c.requires.0.1, lit< tt), ap (λ (q : List ℕ). roomy most_word mw (hours_of c.args.hours reduced_part (start r) (length mw) q)) e ∙ taken_roomy r mw c.requires.0.0 c.requires.1.0.0 c.requires.1.0.1 c.requires.1.1.0 c.requires.1.1.1.1),
     ))
     (λ c. search rules)
     (λ c.
-    let g = c.before.before in
-    let t = g.before.before.before.before in
-    cc (g.add-hours.ensures, t.less-hours.ensures)))
+    cc (c.add_hours.ensures, c.less_hours.ensures)))

@@ -20,6 +20,4 @@ copy_in_force_spec =
     (λ c κs. search rules)
     (λ c. search rules)
     (λ c.
-    let t = c.before.before.before.before.before in
-    let s = t.before.before.before.before in
-    c.before.before.copy.ensures ∙ span_lent s.requires.0 t.before.profile-in-force.ensures.1 t.span_at.ensures _ s.requires.1 ∙ in_force_by s.args.hours (row s.args.hours s.args.l.now s.args.n) t.before.profile-in-force.ensures.0))
+    c.copy.ensures ∙ span_lent c.requires.0 c.profile_in_force-p.ensures.1 c.span_at-from.ensures _ c.requires.1 ∙ in_force_by c.args.hours (row c.args.hours c.args.l.now c.args.n) c.profile_in_force-p.ensures.0))

@@ -13,5 +13,5 @@ count_of_spec =
     (λ c. search rules)
     (λ c κs. search placed)
     (λ c. search rules)
-    (λ c. omega (arith, (own_words c.before.before.before.requires).starts, c.word-at2.ensures, c.before.word_at.ensures))
-    (λ c. (omega (arith, c.word-at2.ensures, c.before.word_at.ensures), omega (arith, (own_words c.before.before.before.requires).stops, (sized c.before.before.before.requires).hours, c.word-at2.ensures, c.before.word_at.ensures))))
+    (λ c. omega (arith, (own_words c.requires).starts, c.word_at-stop.ensures, c.word_at-start.ensures))
+    (λ c. (omega (arith, c.word_at-stop.ensures, c.word_at-start.ensures), omega (arith, (own_words c.requires).stops, (sized c.requires).hours, c.word_at-stop.ensures, c.word_at-start.ensures))))

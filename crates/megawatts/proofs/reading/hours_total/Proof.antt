@@ -19,6 +19,4 @@ hours_total_spec =
     (λ c. search rules)
     (λ c κs. search rules)
     (λ c.
-    let t = c.before.before in
-    let s = t.before.before.before in
-    c.total.ensures ∙ ap total (span_lent s.requires.0 s.requires.1 t.span_at.ensures _ t.before.count_of.ensures.0)))
+    c.total.ensures ∙ ap total (span_lent c.requires.0 c.requires.1 c.span_at-from.ensures _ c.count_of-count.ensures.0)))

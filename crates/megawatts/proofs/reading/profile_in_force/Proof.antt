@@ -14,5 +14,5 @@ profile_in_force_spec =
     (tie.spec
     (λ c κs. search rules)
     (λ c κs. search rules)
-    (λ c. (hit _ _ _ (sym (c.before.has-flag.ensures ∙ ap (has_flag granted_given) c.before.before.word_at.ensures) ∙ c.if1.true), lit< tt))
-    (λ c. (skip _ _ _ _ (sym (c.before.has-flag.ensures ∙ ap (has_flag granted_given) c.before.before.word_at.ensures) ∙ c.if1.false) refl, lit< tt)))
+    (λ c. (hit _ _ _ (sym (c.has_flag.ensures ∙ ap (has_flag granted_given) c.word_at.ensures) ∙ c.if-has_flag.true), lit< tt))
+    (λ c. (skip _ _ _ _ (sym (c.has_flag.ensures ∙ ap (has_flag granted_given) c.word_at.ensures) ∙ c.if-has_flag.false) refl, lit< tt)))

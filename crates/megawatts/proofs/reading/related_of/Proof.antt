@@ -12,4 +12,4 @@ related_of_spec =
     (tie.spec
     (λ c κs. search rules)
     (λ c κs. search rules)
-    (λ c. c.row_of.ensures ∙ ap row_of c.before.word_at.ensures))
+    (λ c. c.row_of-row.ensures ∙ ap row_of c.word_at.ensures))

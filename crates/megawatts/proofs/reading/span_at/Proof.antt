@@ -12,7 +12,6 @@ span_at_spec =
     (λ c κs. search placed)
     (λ c κs. search rules)
     (λ c κs.
-    let s = c.before.before.before in
-    let w = own_words s.requires.0 in
-    (sized s.requires.0, (in_rows s.requires.0, s.requires.1, omega (arith, w.starts, w.stops, c.count_of.ensures.0, c.before.start_of_lem.ensures))))
+    let w = own_words c.requires.0 in
+    (sized c.requires.0, (in_rows c.requires.0, c.requires.1, omega (arith, w.starts, w.stops, c.count_of-count.ensures.0, c.start_of-start.ensures))))
     (λ c. search rules))
