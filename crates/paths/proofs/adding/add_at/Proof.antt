@@ -20,14 +20,12 @@ add_at_spec =
     (λ c. search rules)
     (λ c. search rules)
     (λ c κs.
-    let s = c.before.before.before in (
-      sym (lent_length s.args.sums.now s.args.start s.args.start (length s.args.v.now) refl s.requires.fits),
-      ap (λ (x : List ℕ). roomy most_word s.args.v.now x) (lent s.args.sums.now s.args.start s.args.start (length s.args.v.now) refl s.requires.fits) ∙ adding_room s.requires,
+    (
+      sym (lent_length c.args.sums.now c.args.start c.args.start (length c.args.v.now) refl c.requires.fits),
+      ap (λ (x : List ℕ). roomy most_word c.args.v.now x) (lent c.args.sums.now c.args.start c.args.start (length c.args.v.now) refl c.requires.fits) ∙ adding_room c.requires,
     ))
     (λ c. search rules)
     (λ c.
-    let g = c.before.before in
-    let s = g.before.before.before.before in
-    added s.args.start s.args.v.now s.args.sums.now s.requires.fits _
-    (lent_back s.args.sums.now s.args.start s.args.start (length s.args.v.now) refl s.requires.fits g.add.new.0 _ g.add.auto.0
-    (g.add.ensures ∙ ap (λ (x : List ℕ). zip2 ◌+◌ x s.args.v.now) (lent s.args.sums.now s.args.start s.args.start (length s.args.v.now) refl s.requires.fits)))))
+    added c.args.start c.args.v.now c.args.sums.now c.requires.fits _
+    (lent_back c.args.sums.now c.args.start c.args.start (length c.args.v.now) refl c.requires.fits c.add.new.dst _ c.add.auto.dst
+    (c.add.ensures ∙ ap (λ (x : List ℕ). zip2 ◌+◌ x c.args.v.now) (lent c.args.sums.now c.args.start c.args.start (length c.args.v.now) refl c.requires.fits)))))

@@ -10,13 +10,13 @@ use Rattle.paths.proofs.Hourly.{available_room, available_added}
 use Rattle.paths.proofs.adding.add_available.Statement.{statement}
 use Rattle.paths.proofs.adding.add_available.Tie as tie
 
-abbrev S : tie.After-hours-at → tie.Start
+abbrev S : tie.After-hours_at-from → tie.Start
 S c = c.before.before.before.before.before
 
 -- what is lent is the span's part of available
-is : (c : tie.After-hours-at) → take (c.hours_at.result + span_hours (S c).args.r.now - c.hours_at.result) (drop c.hours_at.result (S c).args.r.now) ≡ span (S c).args.hours available_part (S c).args.r.now
+is : (c : tie.After-hours_at-from) → take (c.hours_at-from.result + span_hours (S c).args.r.now - c.hours_at-from.result) (drop c.hours_at-from.result (S c).args.r.now) ≡ span (S c).args.hours available_part (S c).args.r.now
 unfolding span
-is c = hours_lent (S c).args.r.now (S c).requires.0.long c.hours_at.ensures
+is c = hours_lent (S c).args.r.now (S c).requires.0.long c.hours_at-from.ensures
 
 pub add_available_spec : {M : Type 1} → statement M
 add_available_spec =
@@ -39,4 +39,4 @@ add_available_spec =
     (λ c. search rules)
     (λ c.
     let t = c.before.before.before.before.before in
-    available_added (S t).requires.0 (S t).requires.1.0 (is t) (S t).requires.1.1 c.before.before.add_at.ensures))
+    available_added (S t).requires.0 (S t).requires.1.0 (is t) (S t).requires.1.1 c.add_at.ensures))

@@ -12,17 +12,16 @@ pub add_counted_spec : {M : Type 1} → statement M
 add_counted_spec =
     tie.close
     (tie.spec
-    (λ c κs. let s = c.before.before.before.before in (row_placed s.requires.0 s.requires.1.0, s.requires.1.1.0))
+    (λ c κs. (row_placed c.requires.0 c.requires.1.0, c.requires.1.1.0))
     (λ c κs.
     let s = S c.before.before in
-    (row_changing s.pre.0 s.pre.1.0 s.pre.1.1.0, s.pre.1.1.1))
+    (row_changing s.requires.0 s.requires.1.0 s.requires.1.1.0, s.requires.1.1.1))
     (λ c. search rules)
     (λ c.
-    let t = c.before.before.before.before in
-    let u = t.before in
+    let u = c.before.before.before.before.before in
     let s = S u in
-    adds_as (λ h _. counted s.args.hours s.args.l.now s.args.c s.args.start s.args.mw.now s.args.x s.args.m u.counts.ensures t.if1.true s.pre.1.1.0 h) c.before.before.add_row.ensures)
+    adds_as (λ h _. counted s.args.hours s.args.l.now s.args.c s.args.start s.args.mw.now s.args.x s.args.m u.counts.ensures c.if-counts.true s.requires.1.1.0 h) c.add_row.ensures)
     (λ c.
     let u = c.before in
     let s = S u in
-    adds_none _ (uncounted s.args.hours s.args.l.now s.args.c s.args.start s.args.mw.now s.args.x s.args.m u.counts.ensures c.if1.false)))
+    adds_none _ (uncounted s.args.hours s.args.l.now s.args.c s.args.start s.args.mw.now s.args.x s.args.m u.counts.ensures c.if-counts.false)))

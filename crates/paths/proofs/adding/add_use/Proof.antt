@@ -20,10 +20,7 @@ add_use_spec =
     (tie.spec
     (λ c. search rules)
     (λ c κs.
-    let s = c.before.before.before.before in
-    (unchanged_fits s.requires.0 (record { own = refl; confirmed = refl; less = refl; more = refl }) 0 [] (omega arith) nothing, s.requires.1))
+    (unchanged_fits c.requires.0 (record { own = refl; confirmed = refl; less = refl; more = refl }) 0 [] (omega arith) nothing, c.requires.1))
     (λ c. search rules)
     (λ c.
-    let g = c.before.before in
-    let s = g.before.before.before.before.before in
-    record { long = g.add-rows.ensures.long; each = λ h lt. g.add-rows.ensures.each h lt ∙ use_now s.requires.0 (record { own = refl; confirmed = refl; less = refl; more = refl }) 0 [] s.args.x h }))
+    record { long = c.add_rows.ensures.long; each = λ h lt. c.add_rows.ensures.each h lt ∙ use_now c.requires.0 (record { own = refl; confirmed = refl; less = refl; more = refl }) 0 [] c.args.x h }))

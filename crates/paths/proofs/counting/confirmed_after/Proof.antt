@@ -9,5 +9,5 @@ pub confirmed_after_spec : {M : Type 1} → statement M
 confirmed_after_spec =
     tie.close
     (tie.spec
-    (λ c. hit _ _ _ (eq-eqb _ _ c.if1.true))
-    (λ c. skip _ _ _ _ (ne_eqb _ _ c.if1.false) refl))
+    (λ c. hit _ _ _ (eq-eqb _ _ c.if-m-c.true))
+    (λ c. skip _ _ _ _ (ne_eqb _ _ c.if-m-c.false) refl))

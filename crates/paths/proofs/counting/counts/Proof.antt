@@ -13,32 +13,19 @@ pub counts_spec : {M : Type 1} → statement M
 counts_spec =
     tie.close
     (tie.spec
-    (λ c. let s = c.before.before.before in omega (arith, ap length s.requires.1, own_length s.requires.0))
+    (λ c. omega (arith, ap length c.requires.1, own_length c.requires.0))
     (λ c κs. search rules)
     (λ c.
-    let u = c.before in
-    let s = u.before.before.before.before in
-    counts_not _ _ _ _ _ _ s.requires.1 u.confirmed-after.ensures (not-true _ c.if1.true))
-    (λ c. let s = c.before.before.before.before.before.before in omega (arith, ap length s.requires.1, own_length s.requires.0))
+    counts_not _ _ _ _ _ _ c.requires.1 c.confirmed_after.ensures c.if-not-confirmed_after.true)
+    (λ c. omega (arith, ap length c.requires.1, own_length c.requires.0))
     (λ c.
-    let u = c.before.before.before in
-    let s = u.before.before.before.before in
-    counts_own _ _ _ _ _ _ s.requires.1 u.confirmed-after.ensures (not-false _ c.before.before.if1.false) c.if2.true)
-    (λ c. let s = c.before.before.before.before.before.before.before.before in omega (arith, ap length s.requires.1, own_length s.requires.0))
+    counts_own _ _ _ _ _ _ c.requires.1 c.confirmed_after.ensures c.if-not-confirmed_after.false c.if-r-x.true)
+    (λ c. omega (arith, ap length c.requires.1, own_length c.requires.0))
     (λ c.
-    let o = c.before.before in
-    let u = o.before.before.before in
-    let s = u.before.before.before.before in
-    counts_none _ _ _ _ _ _ s.requires.1 u.confirmed-after.ensures (not-false _ o.before.before.if1.false) o.if2.false c.if3.true)
-    (λ c. let s = c.before.before.before.before.before.before.before.before.before.before in omega (arith, ap length s.requires.1, own_length s.requires.0))
+    counts_none _ _ _ _ _ _ c.requires.1 c.confirmed_after.ensures c.if-not-confirmed_after.false c.if-r-x.false c.if-r-ne-NONFIRM_REDIRECT.true)
+    (λ c. omega (arith, ap length c.requires.1, own_length c.requires.0))
     (λ c κs. search rules)
     (λ c κs.
-    let t = c.before.before in
-    let s = t.before.before.before.before.before.before.before.before.before in
-    (sized s.requires.0, above_in s.requires.0 s.requires.1 t.if3.false c.row_of.ensures))
+    (sized c.requires.0, above_in c.requires.0 c.requires.1 c.if-r-ne-NONFIRM_REDIRECT.false c.row_of-above.ensures))
     (λ c.
-    let t = c.before.before.before in
-    let o = t.before.before in
-    let u = o.before.before.before in
-    let s = u.before.before.before.before in
-    counts_above _ _ _ _ _ _ s.requires.1 u.confirmed-after.ensures (not-false _ o.before.before.if1.false) o.if2.false t.if3.false c.before.row_of.ensures c.is-holder.ensures))
+    counts_above _ _ _ _ _ _ c.requires.1 c.confirmed_after.ensures c.if-not-confirmed_after.false c.if-r-x.false c.if-r-ne-NONFIRM_REDIRECT.false c.row_of-above.ensures c.is_holder.ensures))

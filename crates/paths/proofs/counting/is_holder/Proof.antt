@@ -16,9 +16,6 @@ is_holder_spec =
     (λ c κs. search rules)
     (λ c κs. search rules)
     (λ c.
-    let u = c.before in
-    let s = u.before.before.before.before in
-    goes _ (after_is _ _ _ _ u.before.before.word_at.ensures u.confirmed-after.ensures) c.if1.true (ap (λ (k : ℕ). eqb k s.args.x) u.before.word-at2.ensures))
+    goes _ (after_is _ _ _ _ c.word_at-status.ensures c.confirmed_after.ensures) c.if-confirmed_after.true (ap (λ (k : ℕ). eqb k c.args.x) c.word_at-own.ensures))
     (λ c.
-    let u = c.before in
-    stops _ (after_is _ _ _ _ u.before.before.word_at.ensures u.confirmed-after.ensures) c.if1.false))
+    stops _ (after_is _ _ _ _ c.word_at-status.ensures c.confirmed_after.ensures) c.if-confirmed_after.false))

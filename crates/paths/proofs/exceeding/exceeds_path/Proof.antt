@@ -14,6 +14,6 @@ exceeds_path_spec =
     tie.close
     (tie.spec
     (λ c. search rules)
-    (λ c. sym (length-take-le _ _ (omega (arith, c.before.before.before.before.requires.1.0.hours))))
-    (λ c κs. let s = c.before.before.before.before in (s.requires.0, (cleared _ _ refl (omega (arith, s.requires.1.0.hours)), s.requires.1)))
+    (λ c. sym (length-take-le _ _ (omega (arith, c.requires.1.0.hours))))
+    (λ c κs. (c.requires.0, (cleared _ _ refl (omega (arith, c.requires.1.0.hours)), c.requires.1)))
     (λ c. search rules))

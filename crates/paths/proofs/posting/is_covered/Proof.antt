@@ -15,8 +15,7 @@ is_covered_spec =
     (λ c. sym (length-take-le _ _ (omega arith)))
     (λ c. sym (length-take-le _ _ (omega arith)))
     (λ c κs.
-    let s = c.before.before.before.before.before in
-    length-take-le s.args.start s.args.own.now (omega arith) ∙ sym (length-take-le s.args.start s.args.sums.now (omega arith)))
+    length-take-le c.args.start c.args.own.now (omega arith) ∙ sym (length-take-le c.args.start c.args.sums.now (omega arith)))
     (λ c. search rules)
     (λ c. search rules)
     (λ c. search rules)
@@ -32,7 +31,4 @@ is_covered_spec =
     (λ c. search rules)
     (λ c κs. search rules)
     (λ c.
-    let b = c.before.before.before in
-    let a = b.before.before in
-    let s = a.before.before.before.before.before.before in
-    simp (a.all-covered.ensures, b.all-covered2.ensures, c.all-covered3.ensures) (covered_over s.args.sums.now s.args.own.now s.args.profile.now s.args.start s.requires.0 s.requires.1)))
+    simp (c.all_covered.ensures, c.all_covered-2.ensures, c.all_covered-3.ensures) (covered_over c.args.sums.now c.args.own.now c.args.profile.now c.args.start c.requires.0 c.requires.1)))

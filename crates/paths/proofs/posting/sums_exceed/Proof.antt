@@ -12,7 +12,7 @@ use Rattle.paths.proofs.Overlaid.{overlaid_each}
 use Rattle.paths.proofs.posting.sums_exceed.Statement.{statement}
 use Rattle.paths.proofs.posting.sums_exceed.Tie as tie
 
-abbrev S : tie.After-add-use → tie.Start
+abbrev S : tie.After-add_use → tie.Start
 S c = c.before.before.before.before.before.before
 
 pub sums_exceed_spec : {M : Type 1} → statement M
@@ -27,20 +27,17 @@ sums_exceed_spec =
     (λ c. search rules)
     (λ c. search rules)
     (λ c.
-    let t = c.before in
-    let s = S t.before.before.before in
-    omega (arith, posting_in s.pre.1.1.0 t.posting-at.ensures))
+    let s = S c.before.before.before in
+    omega (arith, posting_in s.requires.1.1.0 c.posting_at-from.ensures))
     (λ c κs.
-    let t = c.before.before in
-    let g = t.before.before.before in
+    let g = c.before.before.before.before in
     let s = S g in
-    (lent_length s.args.postings.now t.posting-at.result (posting_at s.args.hours s.args.x 0) s.args.hours t.posting-at.ensures.is (posting_in s.pre.1.1.0 t.posting-at.ensures) ∙ sym g.add-use.ensures.long, omega (arith, s.pre.1.1.1.1.0, g.add-use.ensures.long)))
+    (lent_length s.args.postings.now c.posting_at-from.result (posting_at s.args.hours s.args.x 0) s.args.hours c.posting_at-from.ensures.is (posting_in s.requires.1.1.0 c.posting_at-from.ensures) ∙ sym g.add_use.ensures.long, omega (arith, s.requires.1.1.1.1.0, g.add_use.ensures.long)))
     (λ c. search rules)
     (λ c.
-    let t = c.before.before.before in
-    let g = t.before.before.before in
+    let g = c.before.before.before.before.before in
     let s = S g in
-    ap not c.is-covered.ensures
+    ap not c.is_covered.ensures
     ∙ exceeds_by s.args.hours (splice s.args.postings.now (posting_at s.args.hours s.args.x s.args.start) s.args.profile.now) (λ y h. use_of s.args.hours s.args.l.now y h) s.args.x _
-    g.add-use.ensures
-    (overlaid_each s.pre.1.1.0 t.posting-at.ensures s.args.start s.args.profile.now s.pre.1.1.1.1.0)))
+    g.add_use.ensures
+    (overlaid_each s.requires.1.1.0 c.posting_at-from.ensures s.args.start s.args.profile.now s.requires.1.1.1.1.0)))
