@@ -16,16 +16,14 @@ confirm_copied_spec =
     (tie.spec
     (λ c κs. search rules)
     (λ c κs.
-    let s = c.before.before.before.before.before.before.before.before.before in
-    let copy = c.before.before.before.before.copy-in-force.ensures in (
-      s.requires.0,
+    let copy = c.copy_in_force.ensures in (
+      c.requires.0,
       (
-        ap length copy ∙ force_length s.requires.0,
-        (ap (λ (v : List ℕ). short s.args.hours s.args.l.now s.args.n v) copy ∙ s.requires.1.1.0, ap (λ (v : List ℕ). over_confirming s.args.hours s.args.l.now s.args.n v) copy ∙ s.requires.1.1.1),
+        ap length copy ∙ force_length c.requires.0,
+        (ap (λ (v : List ℕ). short c.args.hours c.args.l.now c.args.n v) copy ∙ c.requires.1.1.0, ap (λ (v : List ℕ). over_confirming c.args.hours c.args.l.now c.args.n v) copy ∙ c.requires.1.1.1),
       ),
     ))
     (λ c. search rules)
     (λ c. search rules)
     (λ c.
-    let s = c.before.before.before.before.before.before.before.before.before.before.before.before in
-    c.before.before.confirm.ensures ∙ ap (λ (v : List ℕ). confirm s.args.hours s.args.n v s.args.l.now) c.before.before.before.before.before.before.before.copy-in-force.ensures))
+    c.confirm.ensures ∙ ap (λ (v : List ℕ). confirm c.args.hours c.args.n v c.args.l.now) c.copy_in_force.ensures))

@@ -11,9 +11,9 @@ confirm_long_spec =
     tie.close
     (tie.spec
     (λ c. search rules)
-    (λ c. sym (length-take-le _ _ (omega (arith, c.before.before.before.requires.1.0.1))))
+    (λ c. sym (length-take-le _ _ (omega (arith, c.requires.1.0.1))))
     (λ c κs.
-    let p = c.before.before.before.requires in
+    let p = c.requires in
     (p.0, (length-take-le _ _ (omega (arith, p.1.0.1)) ∙ p.1.0.0, p.1.1)))
     (λ c. search rules)
     (λ c. search rules))

@@ -15,9 +15,7 @@ confirm_original_spec =
     (tie.spec
     (λ c κs. search placed)
     (λ c κs.
-    let t = c.before in
-    let s = t.before.before.before.before in
-    let f : t.start_of_lem.result + length s.args.mw.now ≤ s.args.hours = omega (arith, t.start_of_lem.ensures, span_fits s.requires.0 s.args.mw.now s.requires.1) in
-    (sized s.requires.0, ((in_rows s.requires.0, f), (own_words s.requires.0).flags)))
+    let f : c.start_of-start.result + length c.args.mw.now ≤ c.args.hours = omega (arith, c.start_of-start.ensures, span_fits c.requires.0 c.args.mw.now c.requires.1) in
+    (sized c.requires.0, ((in_rows c.requires.0, f), (own_words c.requires.0).flags)))
     (λ c. search rules)
-    (λ c. cc (c.before.before.hold.ensures, c.before.before.before.before.start_of_lem.ensures)))
+    (λ c. cc (c.hold.ensures, c.start_of-start.ensures)))

@@ -23,9 +23,6 @@ confirm_own_number_spec =
     (λ c. search rules)
     (λ c κs. search rules)
     (λ c.
-    let t = c.before.before.before in
-    let q = t.before in
-    let s = q.before.before in
-    c.confirm-number.ensures
-    ∙ ap (λ (v : List ℕ). confirm_number s.args.hours s.args.l.now s.args.n v s.args.approved)
-    (span_lent s.requires q.profile-in-force.ensures.1 t.span_at.ensures c.before.before.count_of.result c.before.before.count_of.ensures.0 ∙ in_force_by s.args.hours (row s.args.hours s.args.l.now s.args.n) q.profile-in-force.ensures.0)))
+    c.confirm_number.ensures
+    ∙ ap (λ (v : List ℕ). confirm_number c.args.hours c.args.l.now c.args.n v c.args.approved)
+    (span_lent c.requires c.profile_in_force-p.ensures.1 c.span_at-from.ensures c.count_of-count.result c.count_of-count.ensures.0 ∙ in_force_by c.args.hours (row c.args.hours c.args.l.now c.args.n) c.profile_in_force-p.ensures.0)))

@@ -19,10 +19,9 @@ empty_row_spec =
     (tie.spec
     (λ c κs. search rules)
     (λ c κs.
-    let h = c.before.before.before in
-    let s = h.before.before.before.before in (
-      record { long = h.clear-hours.auto.0 ∙ s.requires.0.long; fits = s.requires.0.fits },
-      (s.requires.1.0, omega (arith, ap (λ (x : List ℕ). get_or x 7 0) h.clear-hours.ensures, clear_word s.args.hours s.args.start (length s.args.mw.now) s.args.r.now s.requires.0.long s.requires.0.fits available_part (lit< tt) 7 (lit< tt), s.requires.1.1)),
+    (
+      record { long = c.clear_hours.auto.r ∙ c.requires.0.long; fits = c.requires.0.fits },
+      (c.requires.1.0, omega (arith, ap (λ (x : List ℕ). get_or x 7 0) c.clear_hours.ensures, clear_word c.args.hours c.args.start (length c.args.mw.now) c.args.r.now c.requires.0.long c.requires.0.fits available_part (lit< tt) 7 (lit< tt), c.requires.1.1)),
     ))
     (λ c. search rules)
-    (λ c. cc (c.before.before.settle-row.ensures, c.before.before.before.before.before.before.clear-hours.ensures)))
+    (λ c. cc (c.settle_row.ensures, c.clear_hours.ensures)))

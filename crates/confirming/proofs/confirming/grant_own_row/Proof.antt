@@ -56,7 +56,7 @@ grant_own_row_spec =
     (tie.spec
     (λ c. search rules)
     (λ c κs. search rules)
-    (λ c. let s = c.before.before.before.before in stands s.args.hours s.args.r.now s.requires.0.0 s.requires.1.starts s.requires.1.stops (sym c.before.has-flag.ensures ∙ c.if1.true))
+    (λ c. stands c.args.hours c.args.r.now c.requires.0.0 c.requires.1.starts c.requires.1.stops (sym c.has_flag.ensures ∙ c.if-has_flag.true))
     (λ c. search rules)
     (λ c. search rules)
     (λ c. search rules)
@@ -65,26 +65,18 @@ grant_own_row_spec =
     (λ c κs. search rules)
     (λ c κs. search rules)
     (λ c κs.
-    let s = c.before.before.before.before.before.before.before.before.before in
     record {
-      first = omega (arith, c.before.before.hours_at.ensures.fits, s.requires.0.0);
-      second = omega (arith, c.before.hours-at2.ensures.fits, s.requires.0.0);
-      apart = inr (omega (arith, c.before.before.hours_at.ensures.is, c.before.hours-at2.ensures.is, s.requires.1.starts, s.requires.1.stops));
+      first = omega (arith, c.hours_at-to.ensures.fits, c.requires.0.0);
+      second = omega (arith, c.hours_at-from.ensures.fits, c.requires.0.0);
+      apart = inr (omega (arith, c.hours_at-to.ensures.is, c.hours_at-from.ensures.is, c.requires.1.starts, c.requires.1.stops));
     })
     (λ c. search rules)
     (λ c κs.
-    let y = c.before.before.before in
-    let f = y.before.before in
-    let s = f.before.before.before.before.before.before.before.before in
-    (omega arith, omega arith, omega (arith, ap (λ (q : List ℕ). get_or q 7 0) y.copy-part.ensures, kept s.args.hours s.args.r.now s.requires.0.0 s.requires.1.starts s.requires.1.stops f.before.hours_at.ensures f.hours-at2.ensures 7 (lit< tt), s.requires.1.flags)))
+    (omega arith, omega arith, omega (arith, ap (λ (q : List ℕ). get_or q 7 0) c.copy_part.ensures, kept c.args.hours c.args.r.now c.requires.0.0 c.requires.1.starts c.requires.1.stops c.hours_at-to.ensures c.hours_at-from.ensures 7 (lit< tt), c.requires.1.flags)))
     (λ c. search rules)
     (λ c. search rules)
     (λ c.
-    let y = c.before.before.before.before in
-    let f = y.before.before in
-    let i = f.before.before.before.before in
-    let s = i.before.before.before.before in
-    ap (λ (k : ℕ). set y.copy-part.new.0 7 k) c.flag_raised.ensures
+    ap (λ (k : ℕ). set c.copy_part.new.l 7 k) c.flag_raised.ensures
     ∙ ap (λ (q : List ℕ). raise granted_given q)
-    (y.copy-part.ensures
-    ∙ copied s.args.hours s.args.r.now s.requires.0.0 s.requires.1.starts s.requires.1.stops (sym i.before.has-flag.ensures ∙ i.if1.false) refl f.before.hours_at.ensures f.hours-at2.ensures)))
+    (c.copy_part.ensures
+    ∙ copied c.args.hours c.args.r.now c.requires.0.0 c.requires.1.starts c.requires.1.stops (sym c.has_flag.ensures ∙ c.if-has_flag.false) refl c.hours_at-to.ensures c.hours_at-from.ensures)))

@@ -20,9 +20,7 @@ grant_row_spec =
     (λ c κs. search rules)
     (λ c. search rules)
     (λ c κs.
-    let h = c.before.before.before in
-    let s = h.before.before.before.before in
-    (omega arith, omega arith, omega (arith, ap (λ (x : List ℕ). get_or x 7 0) h.set-hours.ensures, set_word s.requires.0 granted_part (lit< tt) 7 (lit< tt), s.requires.1.1)))
+    (omega arith, omega arith, omega (arith, ap (λ (x : List ℕ). get_or x 7 0) c.set_hours.ensures, set_word c.requires.0 granted_part (lit< tt) 7 (lit< tt), c.requires.1.1)))
     (λ c. search rules)
     (λ c. search rules)
-    (λ c. cc (c.flag_raised.ensures, c.before.before.before.before.set-hours.ensures)))
+    (λ c. cc (c.flag_raised.ensures, c.set_hours.ensures)))

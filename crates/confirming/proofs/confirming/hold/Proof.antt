@@ -23,14 +23,10 @@ hold_spec =
     (λ c. search rules)
     (λ c. search rules)
     (λ c κs.
-    let t = c.before in
-    let s = t.before.before.before in (
-      record { long = row_lent_length s.requires.0 t.row_at.ensures; fits = omega arith },
-      (s.requires.0.hours, omega (arith, ap (λ (r : List ℕ). get_or r 7 0) (row_lent s.requires.0 t.row_at.ensures), s.requires.1.1)),
+    (
+      record { long = row_lent_length c.requires.0 c.row_at-at.ensures; fits = omega arith },
+      (c.requires.0.hours, omega (arith, ap (λ (r : List ℕ). get_or r 7 0) (row_lent c.requires.0 c.row_at-at.ensures), c.requires.1.1)),
     ))
     (λ c. search rules)
     (λ c.
-    let g = c.before.before in
-    let t = g.before.before in
-    let s = t.before.before.before in
-    row_back s.requires.0 t.row_at.ensures (held s.args.hours s.args.start s.args.mw.now) g.hold_row.new.0 g.hold_row.auto.0 g.hold_row.ensures))
+    row_back c.requires.0 c.row_at-at.ensures (held c.args.hours c.args.start c.args.mw.now) c.hold_row.new.r c.hold_row.auto.r c.hold_row.ensures))

@@ -19,10 +19,9 @@ hold_row_spec =
     (tie.spec
     (λ c κs. search rules)
     (λ c κs.
-    let h = c.before.before.before in
-    let s = h.before.before.before.before in (
-      record { long = h.set-hours.auto.0 ∙ s.requires.0.long; fits = s.requires.0.fits },
-      (s.requires.1.0, omega (arith, ap (λ (x : List ℕ). get_or x 7 0) h.set-hours.ensures, set_word s.requires.0 available_part (lit< tt) 7 (lit< tt), s.requires.1.1)),
+    (
+      record { long = c.set_hours.auto.r ∙ c.requires.0.long; fits = c.requires.0.fits },
+      (c.requires.1.0, omega (arith, ap (λ (x : List ℕ). get_or x 7 0) c.set_hours.ensures, set_word c.requires.0 available_part (lit< tt) 7 (lit< tt), c.requires.1.1)),
     ))
     (λ c. search rules)
-    (λ c. cc (c.before.before.settle-row.ensures, c.before.before.before.before.before.before.set-hours.ensures)))
+    (λ c. cc (c.settle_row.ensures, c.set_hours.ensures)))

@@ -13,8 +13,8 @@ use Rattle.megawatts.proofs.Laws.{sized, type_three, related_in, span_fits, plac
 use Rattle.confirming.proofs.confirming.is_short.Statement.{statement}
 use Rattle.confirming.proofs.confirming.is_short.Tie as tie
 
-said : (c : tie.After-is-original) → c.is-original.result ≡ original (reqtype (row c.before.before.before.before.args.hours c.before.before.before.before.args.l.now c.before.before.before.before.args.n))
-said c = c.is-original.ensures ∙ ap original c.before.word_at.ensures
+said : (c : tie.After-is_original) → c.is_original.result ≡ original (reqtype (row c.args.hours c.args.l.now c.args.n))
+said c = c.is_original.ensures ∙ ap original c.word_at-reqtype.ensures
 
 pub is_short_spec : {M : Type 1} → statement M
 unfolding short drawn_from
@@ -23,12 +23,11 @@ is_short_spec =
     (tie.spec
     (λ c κs. search placed)
     (λ c κs. search rules)
-    (λ c. and_stops _ _ (ap not (sym (said c.before) ∙ c.if1.true)))
+    (λ c. and_stops _ _ (ap not (sym (said c.before) ∙ c.if-is_original.true)))
     (λ c κs. search placed)
     (λ c κs. search placed)
     (λ c κs.
-    let s = c.before.before.before.before.before.before.before in
-    let m : c.related-of.result < s.args.rows = omega (arith, c.related-of.ensures, related_in s.requires.0 (type_three s.requires.0 (sym (said c.before.before.before) ∙ c.before.before.if1.false))) in
-    let f : c.before.start_of_lem.result + length s.args.mw.now ≤ s.args.hours = omega (arith, c.before.start_of_lem.ensures, span_fits s.requires.0 s.args.mw.now s.requires.1) in
-    (sized s.requires.0, (m, f)))
-    (λ c. and_goes _ _ _ (ap not (sym (said c.before.before.before.before) ∙ c.before.before.before.if1.false)) (cc (c.covers_at.ensures, c.before.related-of.ensures, c.before.before.start_of_lem.ensures))))
+    let m : c.related_of-above.result < c.args.rows = omega (arith, c.related_of-above.ensures, related_in c.requires.0 (type_three c.requires.0 (sym (said c.before.before.before) ∙ c.if-is_original.false))) in
+    let f : c.start_of-start.result + length c.args.mw.now ≤ c.args.hours = omega (arith, c.start_of-start.ensures, span_fits c.requires.0 c.args.mw.now c.requires.1) in
+    (sized c.requires.0, (m, f)))
+    (λ c. and_goes _ _ _ (ap not (sym (said c.before.before.before.before) ∙ c.if-is_original.false)) (cc (c.covers_at.ensures, c.related_of-above.ensures, c.start_of-start.ensures))))

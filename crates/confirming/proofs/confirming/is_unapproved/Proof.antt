@@ -9,8 +9,8 @@ use Rattle.megawatts.proofs.Laws.{placed}
 use Rattle.confirming.proofs.confirming.is_unapproved.Statement.{statement}
 use Rattle.confirming.proofs.confirming.is_unapproved.Tie as tie
 
-said : (c : tie.After-is-transfer) → c.is-transfer.result ≡ transfer (reqtype (row c.before.before.before.args.hours c.before.before.before.args.l.now c.before.before.before.args.n))
-said c = c.is-transfer.ensures ∙ ap transfer c.before.word_at.ensures
+said : (c : tie.After-is_transfer) → c.is_transfer.result ≡ transfer (reqtype (row c.args.hours c.args.l.now c.args.n))
+said c = c.is_transfer.ensures ∙ ap transfer c.word_at-reqtype.ensures
 
 pub is_unapproved_spec : {M : Type 1} → statement M
 unfolding unapproved
@@ -19,5 +19,5 @@ is_unapproved_spec =
     (tie.spec
     (λ c κs. search placed)
     (λ c κs. search rules)
-    (λ c. and_goes _ _ _ (sym (said c.before) ∙ c.if1.true) refl)
-    (λ c. and_stops _ _ (sym (said c.before) ∙ c.if1.false)))
+    (λ c. and_goes _ _ _ (sym (said c.before) ∙ c.if-is_transfer.true) refl)
+    (λ c. and_stops _ _ (sym (said c.before) ∙ c.if-is_transfer.false)))

@@ -13,8 +13,8 @@ use Rattle.megawatts.proofs.Laws.{sized, type_three, related_in, placed}
 use Rattle.confirming.proofs.confirming.is_unconfirmed.Statement.{statement}
 use Rattle.confirming.proofs.confirming.is_unconfirmed.Tie as tie
 
-said : (c : tie.After-is-original) → c.is-original.result ≡ original (reqtype (row c.before.before.before.args.hours c.before.before.before.args.l.now c.before.before.before.args.n))
-said c = c.is-original.ensures ∙ ap original c.before.word_at.ensures
+said : (c : tie.After-is_original) → c.is_original.result ≡ original (reqtype (row c.args.hours c.args.l.now c.args.n))
+said c = c.is_original.ensures ∙ ap original c.word_at-reqtype.ensures
 
 pub is_unconfirmed_spec : {M : Type 1} → statement M
 unfolding unconfirmed
@@ -23,12 +23,10 @@ is_unconfirmed_spec =
     (tie.spec
     (λ c κs. search placed)
     (λ c κs. search rules)
-    (λ c. and_stops _ _ (ap not (sym (said c.before) ∙ c.if1.true)))
+    (λ c. and_stops _ _ (ap not (sym (said c.before) ∙ c.if-is_original.true)))
     (λ c κs. search placed)
     (λ c κs.
-    let s = c.before.before.before.before.before in
-    let m : c.related-of.result < s.args.rows = omega (arith, c.related-of.ensures, related_in s.requires (type_three s.requires (sym (said c.before.before) ∙ c.before.if1.false))) in
-    (sized s.requires, m))
+    let m : c.related_of-above.result < c.args.rows = omega (arith, c.related_of-above.ensures, related_in c.requires (type_three c.requires (sym (said c.before.before) ∙ c.if-is_original.false))) in
+    (sized c.requires, m))
     (λ c.
-    let s = c.before.before.before.before.before.before in
-    and_goes _ _ _ (ap not (sym (said c.before.before.before) ∙ c.before.before.if1.false)) (ap not (c.is-confirmed.ensures ∙ ap (λ (m : ℕ). is_confirmed (row s.args.hours s.args.l.now m)) c.before.related-of.ensures))))
+    and_goes _ _ _ (ap not (sym (said c.before.before.before) ∙ c.if-is_original.false)) (ap not (c.is_confirmed.ensures ∙ ap (λ (m : ℕ). is_confirmed (row c.args.hours c.args.l.now m)) c.related_of-above.ensures))))

@@ -14,9 +14,8 @@ same_span_spec =
     (tie.spec
     (λ c κs. search rules)
     (λ c κs. search rules)
-    (λ c. and_stops _ _ (ne_eqb _ _ (λ e. c.if1.true (c.before.before.word_at.ensures ∙ e ∙ sym c.before.word-at2.ensures))))
+    (λ c. and_stops _ _ (ne_eqb _ _ (λ e. c.if-word_at.true (c.word_at.ensures ∙ e ∙ sym c.word_at-2.ensures))))
     (λ c κs. search rules)
     (λ c κs. search rules)
     (λ c.
-    let t = c.before.before.before in
-    and_goes _ _ _ (eq-eqb _ _ (sym t.before.word_at.ensures ∙ c.before.before.if1.false ∙ t.word-at2.ensures)) (cc (c.word-at4.ensures, c.before.word-at3.ensures))))
+    and_goes _ _ _ (eq-eqb _ _ (sym c.word_at.ensures ∙ c.if-word_at.false ∙ c.word_at-2.ensures)) (cc (c.word_at-4.ensures, c.word_at-3.ensures))))

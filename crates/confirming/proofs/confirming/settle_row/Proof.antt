@@ -10,4 +10,4 @@ settle_row_spec =
     (λ c κs. search rules)
     (λ c. search rules)
     (λ c. search rules)
-    (λ c. cc c.before.before.grant-row.ensures))
+    (λ c. cc c.grant_row.ensures))

@@ -16,5 +16,4 @@ bad_flags_spec =
     (tie.spec
     (λ c κs. search rules)
     (λ c.
-    let s = c.before.before.before in
-    ap (λ (x : Bool). ltb (preconfirmed + coordinated) s.args.a.flags || eqb s.args.a.reqtype NONFIRM_REDIRECT && not x) c.has-flag.ensures))
+    ap (λ (x : Bool). ltb (preconfirmed + coordinated) c.args.a.flags || eqb c.args.a.reqtype NONFIRM_REDIRECT && not x) c.has_flag.ensures))

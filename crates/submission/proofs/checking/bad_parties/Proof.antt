@@ -11,11 +11,8 @@ bad_parties_spec =
     tie.close
     (tie.spec
     (λ c κs. search rules)
-    (λ c. omega (arith, head_fits c.before.before.before.requires))
+    (λ c. omega (arith, head_fits c.requires))
     (λ c κs. search rules)
     (λ c κs. search rules)
     (λ c.
-    let o = c.before.before.before in
-    let r = o.before.before in
-    let s = r.before.before in
-    parties s.args.hours s.args.l.now s.args.a r.related-customer.ensures o.seller-of.ensures c.before.is-holders.ensures))
+    parties c.args.hours c.args.l.now c.args.a c.related_customer-customer.ensures c.seller_of-seller.ensures c.is_holders.ensures))

@@ -12,6 +12,6 @@ bad_path_spec =
     tie.close
     (tie.spec
     (λ c κs. search rules)
-    (λ c. or_stops _ _ (sym c.before.unknown-path.ensures ∙ c.if1.true))
+    (λ c. or_stops _ _ (sym c.unknown_path.ensures ∙ c.if-unknown_path.true))
     (λ c κs. search rules)
-    (λ c. or_goes _ _ _ (sym c.before.before.unknown-path.ensures ∙ c.before.if1.false) c.unfit-path.ensures))
+    (λ c. or_goes _ _ _ (sym c.unknown_path.ensures ∙ c.if-unknown_path.false) c.unfit_path.ensures))

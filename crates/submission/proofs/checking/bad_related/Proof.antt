@@ -13,6 +13,6 @@ bad_related_spec =
     tie.close
     (tie.spec
     (λ c κs. search rules)
-    (λ c. ap not (hit _ _ _ (sym c.before.before.is-original.ensures ∙ c.before.if1.true)))
+    (λ c. ap not (hit _ _ _ (sym c.is_original.ensures ∙ c.if-is_original.true)))
     (λ c κs. search rules)
-    (λ c. ap not (skip _ _ _ _ (sym c.before.before.is-original.ensures ∙ c.before.if1.false) c.good-related.ensures)))
+    (λ c. ap not (skip _ _ _ _ (sym c.is_original.ensures ∙ c.if-is_original.false) c.good_related.ensures)))

@@ -13,5 +13,4 @@ bad_requested_spec =
     (λ c κs. search rules)
     (λ c κs. search rules)
     (λ c.
-    let s = c.before.before.before in
-    c.bad-profile.ensures ∙ ap (λ (k : ℕ). bad_profile s.args.words.now s.args.a k) c.before.span-asked.ensures))
+    c.bad_profile.ensures ∙ ap (λ (k : ℕ). bad_profile c.args.words.now c.args.a k) c.span_asked.ensures))

@@ -12,4 +12,4 @@ bad_type_spec =
     tie.close
     (tie.spec
     (λ c κs. search rules)
-    (λ c. ap not c.is-from.ensures))
+    (λ c. ap not c.is_from.ensures))

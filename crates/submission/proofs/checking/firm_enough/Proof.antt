@@ -11,6 +11,6 @@ firm_enough_spec =
     tie.close
     (tie.spec
     (λ c κs. search rules)
-    (λ c. or_stops _ _ (ap not (sym c.before.is-redirect.ensures) ∙ c.if1.true))
+    (λ c. or_stops _ _ (ap not (sym c.is_redirect.ensures ∙ c.if-not-is_redirect.true)))
     (λ c κs. search rules)
-    (λ c. or_goes _ _ _ (ap not (sym c.before.before.is-redirect.ensures) ∙ c.before.if1.false) c.firm.ensures))
+    (λ c. or_goes _ _ _ (ap not (sym c.is_redirect.ensures ∙ c.if-not-is_redirect.false)) c.firm.ensures))

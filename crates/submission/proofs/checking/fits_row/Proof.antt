@@ -20,6 +20,5 @@ fits_row_spec =
     (λ c κs. search rules)
     (λ c κs. search rules)
     (λ c.
-    let s = c.before.before.before.before.before in
-    ap (λ (x : Bool). eqb (status s.args.r.now) CONFIRMED && (x && (s.args.firm && c.is-inside.result))) c.before.relates.ensures
-    ∙ ap (λ (x : Bool). eqb (status s.args.r.now) CONFIRMED && (relates s.args.a.reqtype (reqtype s.args.r.now) && (s.args.firm && x))) c.is-inside.ensures))
+    ap (λ (x : Bool). eqb (status c.args.r.now) CONFIRMED && (x && (c.args.firm && c.is_inside.result))) c.relates.ensures
+    ∙ ap (λ (x : Bool). eqb (status c.args.r.now) CONFIRMED && (relates c.args.a.reqtype (reqtype c.args.r.now) && (c.args.firm && x))) c.is_inside.ensures))

@@ -16,32 +16,22 @@ unfolding good_related
 good_related_spec =
     tie.close
     (tie.spec
-    (λ c κs. head_fits c.before.requires)
-    (λ c. and_stops _ _ (sym c.before.is-issued.ensures ∙ not-true _ c.if1.true))
+    (λ c κs. head_fits c.requires)
+    (λ c. and_stops _ _ (sym c.is_issued.ensures ∙ c.if-not-is_issued.true))
     (λ c κs. search rules)
     (λ c κs.
-    let i = c.before.before in
-    let s = i.before.before in
-    (sized_at s.requires, omega (arith, c.row_of.ensures, issued_in s.requires s.args.a.related (sym i.is-issued.ensures ∙ not-false _ c.before.if1.false))))
+    (sized_at c.requires, omega (arith, c.row_of-n.ensures, issued_in c.requires c.args.a.related (sym c.is_issued.ensures ∙ c.if-not-is_issued.false))))
     (λ c κs.
-    let r = c.before in
-    let i = r.before.before in
-    let s = i.before.before in
-    ((sized_at s.requires).rows, (sized_at s.requires).hours, omega (arith, r.row_of.ensures, issued_in s.requires s.args.a.related (sym i.is-issued.ensures ∙ not-false _ r.before.if1.false))))
+    ((sized_at c.requires).rows, (sized_at c.requires).hours, omega (arith, c.row_of-n.ensures, issued_in c.requires c.args.a.related (sym c.is_issued.ensures ∙ c.if-not-is_issued.false))))
     (λ c. search rules)
     (λ c. search rules)
     (λ c. search rules)
     (λ c. search rules)
     (λ c. search rules)
     (λ c. search rules)
-    (λ c. let s = c.before.before.before.before.before.before in omega (arith, c.row_at.ensures.fits, (sized_at s.requires).long))
+    (λ c. omega (arith, c.row_at-at.ensures.fits, (sized_at c.requires).long))
     (λ c κs.
-    let s = c.before.before.before.before.before.before.before in
-    omega (arith, row_lent_length (sized_at s.requires) c.before.row_at.ensures))
+    omega (arith, row_lent_length (sized_at c.requires) c.row_at-at.ensures))
     (λ c.
-    let t = c.before.before in
-    let r = t.before.before in
-    let i = r.before.before in
-    let s = i.before.before in
-    related_good s.args.hours s.args.l.now s.args.a (sym i.is-issued.ensures ∙ not-false _ r.before.if1.false) r.row_of.ensures
-    (row_lent (sized_at s.requires) t.row_at.ensures) t.before.firm-enough.ensures c.fits-row.ensures))
+    related_good c.args.hours c.args.l.now c.args.a (sym c.is_issued.ensures ∙ c.if-not-is_issued.false) c.row_of-n.ensures
+    (row_lent (sized_at c.requires) c.row_at-at.ensures) c.firm_enough-firm.ensures c.fits_row.ensures))

@@ -11,4 +11,4 @@ is_issued_spec =
     (tie.spec
     (λ c. search rules)
     (λ c κs. search rules)
-    (λ c. c.is-from.ensures))
+    (λ c. c.is_from.ensures))

@@ -16,10 +16,7 @@ related_customer_spec =
     (tie.spec
     (λ c κs. search rules)
     (λ c.
-    let s = c.before.before.before.before in
-    sym (none_past s.requires (row_of s.args.a.related) (omega (arith, c.if1.true, c.before.before.row_of.ensures)) 2))
+    sym (none_past c.requires (row_of c.args.a.related) (omega (arith, c.if-rows-n.true, c.row_of-n.ensures)) 2))
     (λ c κs. search sound)
     (λ c.
-    let r = c.before.before.before in
-    let s = r.before.before in
-    c.word_at.ensures ∙ ap (λ (n : ℕ). customer (row s.args.hours s.args.l.now n)) r.row_of.ensures))
+    c.word_at.ensures ∙ ap (λ (n : ℕ). customer (row c.args.hours c.args.l.now n)) c.row_of-n.ensures))

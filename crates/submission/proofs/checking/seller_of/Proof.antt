@@ -10,5 +10,5 @@ seller_of_spec =
     tie.close
     (tie.spec
     (λ c κs. search rules)
-    (λ c. hit _ _ _ (sym c.before.is-resold.ensures ∙ c.if1.true))
-    (λ c. skip _ _ _ _ (sym c.before.is-resold.ensures ∙ c.if1.false) refl))
+    (λ c. hit _ _ _ (sym c.is_resold.ensures ∙ c.if-is_resold.true))
+    (λ c. skip _ _ _ _ (sym c.is_resold.ensures ∙ c.if-is_resold.false) refl))

@@ -19,12 +19,11 @@ unfolding submit_after
 submit_spec =
     tie.close
     (tie.spec
-    (λ c. omega (arith, head_fits c.before.before.before.requires.0))
+    (λ c. omega (arith, head_fits c.requires.0))
     (λ c. search rules)
     (λ c κs.
-    let s = c.before.before.before in
-    let z = sized_at s.requires.0 in
-    (z.rows, z.hours, row_free s.requires.0 s.args.words.now s.args.a s.requires.1))
+    let z = sized_at c.requires.0 in
+    (z.rows, z.hours, row_free c.requires.0 c.args.words.now c.args.a c.requires.1))
     (λ c. search rules)
     (λ c. search rules)
     (λ c. search rules)
@@ -33,33 +32,28 @@ submit_spec =
     (λ c. search rules)
     (λ c. search rules)
     (λ c. search rules)
-    (λ c. let t = c.before.before in omega (arith, t.row_at.ensures.fits, (sized_at t.before.before.before.before.requires.0).long))
+    (λ c. omega (arith, c.row_at-at.ensures.fits, (sized_at c.requires.0).long))
     (λ c. search rules)
     (λ c. search rules)
     (λ c. search rules)
     (λ c. search rules)
-    (λ c. let s = c.before.before.before.before.before.before.before in omega (arith, profile_in s.requires.0 s.args.words.now s.args.a s.requires.1))
+    (λ c. omega (arith, profile_in c.requires.0 c.args.words.now c.args.a c.requires.1))
     (λ c κs.
-    let t = c.before.before.before.before in
-    let s = t.before.before.before.before in
-    let z = sized_at s.requires.0 in
-    let w = s.args.words.now in
-    let a = s.args.a in (
+    let z = sized_at c.requires.0 in
+    let w = c.args.words.now in
+    let a = c.args.a in (
       record {
-        long = row_lent_length z t.row_at.ensures;
-        fits = omega (arith, lent_length w a.offset a.offset a.length refl (profile_in s.requires.0 w a s.requires.1), profile_fits s.requires.0 w a s.requires.1);
+        long = row_lent_length z c.row_at-at.ensures;
+        fits = omega (arith, lent_length w a.offset a.offset a.length refl (profile_in c.requires.0 w a c.requires.1), profile_fits c.requires.0 w a c.requires.1);
       },
       z.hours,
     ))
     (λ c. search rules)
-    (λ c. omega (arith, head_fits c.before.before.before.before.before.before.before.before.before.before.before.requires.0))
+    (λ c. omega (arith, head_fits c.requires.0))
     (λ c. search rules)
     (λ c.
-    let g = c.before.before in
-    let t = g.before.before.before.before.before in
-    let s = t.before.before.before.before in
-    let w = s.args.words.now in
-    let a = s.args.a in
-    ap (λ (x : List ℕ). set x 6 (used s.args.l.now + 1))
-    (row_back (sized_at s.requires.0) t.row_at.ensures (new_row s.args.hours w a) g.write-row.new.0 g.write-row.auto.0
-    (row_written s.args.hours w a _ (profile_in s.requires.0 w a s.requires.1) g.write-row.ensures))))
+    let w = c.args.words.now in
+    let a = c.args.a in
+    ap (λ (x : List ℕ). set x 6 (used c.args.l.now + 1))
+    (row_back (sized_at c.requires.0) c.row_at-at.ensures (new_row c.args.hours w a) c.write_row.new.r c.write_row.auto.r
+    (row_written c.args.hours w a _ (profile_in c.requires.0 w a c.requires.1) c.write_row.ensures))))

@@ -17,7 +17,4 @@ write_row_spec =
     (λ c κs. search rules)
     (λ c. search rules)
     (λ c.
-    let g = c.before.before in
-    let w = g.before.before.before.before.before in
-    let s = w.before.before.before.before in
-    g.set-hours.ensures ∙ ap (λ (x : List ℕ). set_hours s.args.hours requested_part s.args.a.start s.args.profile.now x) w.write-words.ensures))
+    c.set_hours.ensures ∙ ap (λ (x : List ℕ). set_hours c.args.hours requested_part c.args.a.start c.args.profile.now x) c.write_words.ensures))
