@@ -3,7 +3,7 @@ use mathlib.Core.Path.{◌≡◌, refl, sym, ap, ◌∙◌}
 use Prim.Native.Nat.{ℕ, ◌/◌, ◌<◌}
 use native.Mathlib.Omega.{arith}
 use Rattle.stamp.specs.Calendar.{days_in, days_before, month_of, all_months}
-use Rattle.stamp.specs.Stamp.{fields_at, day_in, month_in, local_second, all_seconds, zone_count, century, day, hour, minute}
+use Rattle.stamp.specs.Stamp.{fields_at, day_in, month_in, local_second, all_seconds, zone_count, day}
 use Rattle.stamp.specs.Steps.{Ranged, Printable}
 use Rattle.stamp.specs.declared.Fields.{Fields}
 use Rattle.stamp.proofs.Months.{InMonth, next_month, one_month, month_of_lem, days_most}

@@ -28,7 +28,7 @@ pub record Offset (z r : ℕ) : Type 0 where
   pub is : r ≡ offset z
   pub small : r ≤ 8 * hour
 
--- `inRange` but for the month's last day
+-- `in_range` but for the month's last day
 unfoldable pub in_limits : Fields → Bool
 in_limits f = is_month f && is_time f && ltb f.zone zone_count
 
@@ -40,7 +40,7 @@ pub record OfMonth (f : Fields) : Type 0 where
   pub last_month : f.month ≤ months_of_year
   pub first_day : 1 ≤ f.day
 
--- a stamp's numbers in range: `inRange` as facts
+-- a stamp's numbers in range: `in_range` as facts
 pub record Ranged (f : Fields) : Type 0 where
   pub hundreds : f.century ≡ century
   pub years : f.year ≤ last_year

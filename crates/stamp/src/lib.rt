@@ -1,4 +1,6 @@
 // Time stamps of 16 bytes, yyyymmddhhmmss and zone: read to seconds since 2000-01-01 00:00 UT, and written from them.
+#![tactic(auto)]
+
 mod calendar;
 mod compare;
 mod read;
@@ -30,7 +32,7 @@ const ALL_SECONDS: u32 = calendar::ALL_DAYS * DAY;
 const CENTURY: u32 = 20;
 
 // The numbers of a stamp: the first two and the last two digits of the year, month and day from 1 on, the time, and the zone's code.
-#[derive(Drop)]
+#[derive(Clone, Copy)]
 pub struct Fields {
     pub century: u32,
     pub year: u32,
@@ -43,7 +45,7 @@ pub struct Fields {
 }
 
 // What reading gives: 0 and the second, or 18 and 0.
-#[derive(Drop)]
+#[derive(Clone, Copy)]
 pub struct Reading {
     pub number: u32,
     pub second: u32,
@@ -51,7 +53,7 @@ pub struct Reading {
 
 // What comparing gives: 0 and the order, 0, 1 or 2 as the first is earlier than, the same as or later than the second,
 // or 18 and 0.
-#[derive(Drop)]
+#[derive(Clone, Copy)]
 pub struct Comparison {
     pub number: u32,
     pub order: u32,

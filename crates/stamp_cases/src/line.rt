@@ -15,8 +15,8 @@ fn digit(byte: u8) -> u64
 // A decimal number of at most ten digits.
 fn number_in(digits: &[u8]) -> u32 {
     let mut n = 0u64;
-    for k in 0..digits.len() {
-        n = n % 1000000000 * 10 + digit(digits[k]);
+    for byte in digits {
+        n = n % 1000000000 * 10 + digit(*byte);
     }
     (n % 4294967296) as u32
 }
@@ -40,7 +40,7 @@ pub fn is_written(line: &[u8]) -> bool
     let zone = number_in(&line[33..43]);
     let mut slice = [b'.'; 16];
     let w = stamp::write_stamp(&mut slice, second, zone);
-    w == number && check::same(&slice, &line[2..18])
+    w == number && slice[..] == line[2..18]
 }
 
 pub fn is_refused(stamp: &[u8]) -> bool {
@@ -51,5 +51,5 @@ pub fn is_refused(stamp: &[u8]) -> bool {
 // Writing into the slice is refused, and the slice is as it was.
 pub fn is_kept(slice: &mut [u8], before: &[u8]) -> bool {
     let w = stamp::write_stamp(slice, 230641200, 1);
-    w == 19 && check::same(&slice[..], before)
+    w == 19 && *slice == *before
 }

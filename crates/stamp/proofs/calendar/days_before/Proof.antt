@@ -7,16 +7,16 @@ use Rattle.stamp.proofs.Months.{all_days_lem, later_month}
 use Rattle.stamp.proofs.calendar.days_before.Statement.{statement}
 use Rattle.stamp.proofs.calendar.days_before.Tie as tie
 
-returns : tie.Need-returns
-returns c = record { is = sym all_days_lem ∙ ap days_before (sym c.if1.true); small = search rules }
+returns : tie.Need-returns-then-month-eq-ALL_MONTHS
+returns c = record { is = sym all_days_lem ∙ ap days_before (sym c.if-month-eq-ALL_MONTHS.true); small = search rules }
 
-mul-result : tie.Need-overflow-mul-result
+mul-result : tie.Need-offset_bounds-table-month
 mul-result c = search rules
 
-element-copy-out-result : tie.Need-element-copy-out-result
+element-copy-out-result : tie.Need-bounds-table-month
 element-copy-out-result c = search rules
 
-returns-2 : tie.Need-returns-2
+returns-2 : tie.Need-returns
 returns-2 c =
     let m = c.before.before.args.month in
     let e = c.before.before.requires.0.entries m (omega arith) in

@@ -8,16 +8,16 @@ use Rattle.stamp.proofs.Months.{next_month}
 use Rattle.stamp.proofs.calendar.days_in.Statement.{statement}
 use Rattle.stamp.proofs.calendar.days_in.Tie as tie
 
-add-days-before : tie.Need-overflow-add-days-before
+add-days-before : tie.Need-overflow_add-month
 add-days-before c = search rules
 
-days-before-requires : tie.Need-days-before-requires
+days-before-requires : tie.Need-days_before-requires
 days-before-requires c κs = search rules
 
-days-before-requires-2 : tie.Need-days-before-requires-2
+days-before-requires-2 : tie.Need-days_before-requires-2
 days-before-requires-2 c κs = search rules
 
-sub-result : tie.Need-overflow-sub-result
+sub-result : tie.Need-overflow_sub-result
 sub-result c =
     let m = c.before.before.args.month in
     omega (arith, next_month m, ap days_before (add-one m))

@@ -7,19 +7,19 @@ use Rattle.stamp.proofs.compare.compare_readings.Tie as tie
 refused-requires : tie.Need-refused-requires
 refused-requires c κs = search rules
 
-returns : tie.Need-returns
+returns : tie.Need-returns-then-a-ne-ACCEPTED
 returns c = search comparisons
 
-refused-requires-2 : tie.Need-refused-requires-2
+refused-requires-2 : tie.Need-refused-requires-then-b-ne-ACCEPTED
 refused-requires-2 c κs = search rules
 
-returns-2 : tie.Need-returns-2
+returns-2 : tie.Need-returns-then-b-ne-ACCEPTED
 returns-2 c = search comparisons
 
-order-of-requires : tie.Need-order-of-requires
+order-of-requires : tie.Need-order_of-requires
 order-of-requires c κs = search rules
 
-returns-3 : tie.Need-returns-3
+returns-3 : tie.Need-returns
 returns-3 c = search comparisons
 
 pub compare_readings_spec : {M : Type 1} → statement M

@@ -4,15 +4,15 @@ use Rattle.stamp.proofs.Picks.{choice}
 use Rattle.stamp.proofs.compare.order_of.Statement.{statement}
 use Rattle.stamp.proofs.compare.order_of.Tie as tie
 
-returns : tie.Need-returns
+returns : tie.Need-returns-then-s-t
 unfolding order_of
 returns c = search choice
 
-returns-2 : tie.Need-returns-2
+returns-2 : tie.Need-returns-then-s-t-2
 unfolding order_of
 returns-2 c = search choice
 
-returns-3 : tie.Need-returns-3
+returns-3 : tie.Need-returns
 unfolding order_of
 returns-3 c = search choice
 

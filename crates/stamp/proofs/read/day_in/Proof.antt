@@ -6,22 +6,22 @@ use Rattle.stamp.proofs.Ranges.{day_below}
 use Rattle.stamp.proofs.read.day_in.Statement.{statement}
 use Rattle.stamp.proofs.read.day_in.Tie as tie
 
-mul-month : tie.Need-overflow-mul-month
+mul-month : tie.Need-overflow_mul-month
 mul-month c = search rules
 
-sub-month : tie.Need-overflow-sub-month
+sub-month : tie.Need-overflow_sub-month
 sub-month c = search rules
 
-add-month : tie.Need-overflow-add-month
+add-month : tie.Need-overflow_add-month
 add-month c = search rules
 
-days-before-requires : tie.Need-days-before-requires
+days-before-requires : tie.Need-days_before-requires
 days-before-requires c κs = search rules
 
-sub-result : tie.Need-overflow-sub-result
+sub-result : tie.Need-overflow_sub-result
 sub-result c = search rules
 
-add-result : tie.Need-overflow-add-result
+add-result : tie.Need-overflow_add-result
 unfolding day_in
 add-result c = omega (arith, day_below c.before.before.before.before.requires.1)
 

@@ -4,23 +4,23 @@ use Rattle.stamp.proofs.Picks.{chain}
 use Rattle.stamp.proofs.read.is_month.Statement.{statement}
 use Rattle.stamp.proofs.read.is_month.Tie as tie
 
-returns : tie.Need-returns
+returns : tie.Need-returns-then-f-ne-CENTURY
 unfolding is_month
 returns c = search chain depth 16
 
-returns-2 : tie.Need-returns-2
+returns-2 : tie.Need-returns-then-f-gt-LAST_YEAR
 unfolding is_month
 returns-2 c = search chain depth 16
 
-returns-3 : tie.Need-returns-3
+returns-3 : tie.Need-returns-then-f-lt1
 unfolding is_month
 returns-3 c = search chain depth 16
 
-returns-4 : tie.Need-returns-4
+returns-4 : tie.Need-returns-then-f-gt-MONTHS_OF_YEAR
 unfolding is_month
 returns-4 c = search chain depth 16
 
-returns-5 : tie.Need-returns-5
+returns-5 : tie.Need-returns
 unfolding is_month
 returns-5 c = search chain depth 16
 

@@ -4,15 +4,15 @@ use Rattle.stamp.proofs.Picks.{chain}
 use Rattle.stamp.proofs.read.is_time.Statement.{statement}
 use Rattle.stamp.proofs.read.is_time.Tie as tie
 
-returns : tie.Need-returns
+returns : tie.Need-returns-then-f-gt-LAST_HOUR
 unfolding is_time
 returns c = search chain depth 16
 
-returns-2 : tie.Need-returns-2
+returns-2 : tie.Need-returns-then-f-gt-LAST_MINUTE
 unfolding is_time
 returns-2 c = search chain depth 16
 
-returns-3 : tie.Need-returns-3
+returns-3 : tie.Need-returns
 unfolding is_time
 returns-3 c = search chain depth 16
 

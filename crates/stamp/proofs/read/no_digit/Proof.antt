@@ -4,11 +4,11 @@ use Rattle.stamp.proofs.Picks.{tests}
 use Rattle.stamp.proofs.read.no_digit.Statement.{statement}
 use Rattle.stamp.proofs.read.no_digit.Tie as tie
 
-returns : tie.Need-returns
+returns : tie.Need-returns-then-byte-lt48
 unfolding no_digit
 returns c = search tests
 
-returns-2 : tie.Need-returns-2
+returns-2 : tie.Need-returns-else-byte-lt48
 unfolding no_digit
 returns-2 c = search tests
 

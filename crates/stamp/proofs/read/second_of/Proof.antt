@@ -5,31 +5,31 @@ use Rattle.stamp.specs.Stamp.{second_of, local_second}
 use Rattle.stamp.proofs.read.second_of.Statement.{statement}
 use Rattle.stamp.proofs.read.second_of.Tie as tie
 
-day-in-requires : tie.Need-day-in-requires
+day-in-requires : tie.Need-day_in-requires
 day-in-requires c κs = search rules
 
-mul-local : tie.Need-overflow-mul-local
+mul-local : tie.Need-overflow_mul-local
 mul-local c = search rules
 
-mul-local-2 : tie.Need-overflow-mul-local-2
+mul-local-2 : tie.Need-overflow_mul-local-2
 mul-local-2 c = search rules
 
-add-local : tie.Need-overflow-add-local
+add-local : tie.Need-overflow_add-local
 add-local c = search rules
 
-mul-local-3 : tie.Need-overflow-mul-local-3
+mul-local-3 : tie.Need-overflow_mul-local-3
 mul-local-3 c = search rules
 
-add-local-2 : tie.Need-overflow-add-local-2
+add-local-2 : tie.Need-overflow_add-local-2
 add-local-2 c = search rules
 
-add-local-3 : tie.Need-overflow-add-local-3
+add-local-3 : tie.Need-overflow_add-local-3
 add-local-3 c = search rules
 
-offset-of-requires : tie.Need-offset-of-requires
+offset-of-requires : tie.Need-offset_of-requires
 offset-of-requires c κs = search rules
 
-add-result : tie.Need-overflow-add-result
+add-result : tie.Need-overflow_add-result
 add-result c = search rules
 
 returns : tie.Need-returns

@@ -5,20 +5,20 @@ use Rattle.stamp.specs.Stamp.{zone_of}
 use Rattle.stamp.proofs.read.stamp_zone.Statement.{statement}
 use Rattle.stamp.proofs.read.stamp_zone.Tie as tie
 
-shared-slice-read-letters : tie.Need-shared-slice-read-letters
+shared-slice-read-letters : tie.Need-bounds-bytes-14
 shared-slice-read-letters c = search rules
 
-shared-slice-read-letters-2 : tie.Need-shared-slice-read-letters-2
+shared-slice-read-letters-2 : tie.Need-bounds-bytes-15
 shared-slice-read-letters-2 c = search rules
 
 letters-requires : tie.Need-letters-requires
 letters-requires c κs = search rules
 
-zone-of-requires : tie.Need-zone-of-requires
+zone-of-requires : tie.Need-zone_of-requires
 zone-of-requires c κs = search rules
 
 returns : tie.Need-returns
-returns c = c.zone-of.ensures ∙ ap zone_of c.before.letters.ensures
+returns c = c.zone_of.ensures ∙ ap zone_of c.before.letters.ensures
 
 pub stamp_zone_spec : {M : Type 1} → statement M
 stamp_zone_spec =

@@ -4,19 +4,19 @@ use Rattle.stamp.specs.Stamp.{fields_at}
 use Rattle.stamp.proofs.write.fields_at.Statement.{statement}
 use Rattle.stamp.proofs.write.fields_at.Tie as tie
 
-month-of-requires : tie.Need-month-of-requires
+month-of-requires : tie.Need-month_of-month-requires
 month-of-requires c κs = search rules
 
-add-t8 : tie.Need-overflow-add-t8
+add-t8 : tie.Need-overflow_add-result
 add-t8 c = search rules
 
-days-before-requires : tie.Need-days-before-requires
+days-before-requires : tie.Need-days_before-requires
 days-before-requires c κs = search rules
 
-sub-t10 : tie.Need-overflow-sub-t10
+sub-t10 : tie.Need-overflow_sub-result
 sub-t10 c = search rules
 
-add-t11 : tie.Need-overflow-add-t11
+add-t11 : tie.Need-overflow_add-result-2
 add-t11 c = search rules
 
 returns : tie.Need-returns

@@ -4,31 +4,31 @@ use Rattle.stamp.proofs.Writings.{put_all}
 use Rattle.stamp.proofs.write.put_fields.Statement.{statement}
 use Rattle.stamp.proofs.write.put_fields.Tie as tie
 
-put-digits-requires : tie.Need-put-digits-requires
+put-digits-requires : tie.Need-put_digits-requires
 put-digits-requires c κs = search rules
 
-put-digits-requires-2 : tie.Need-put-digits-requires-2
+put-digits-requires-2 : tie.Need-put_digits-requires-2
 put-digits-requires-2 c κs = search rules
 
-put-digits-requires-3 : tie.Need-put-digits-requires-3
+put-digits-requires-3 : tie.Need-put_digits-requires-3
 put-digits-requires-3 c κs = search rules
 
-put-digits-requires-4 : tie.Need-put-digits-requires-4
+put-digits-requires-4 : tie.Need-put_digits-requires-4
 put-digits-requires-4 c κs = search rules
 
-put-digits-requires-5 : tie.Need-put-digits-requires-5
+put-digits-requires-5 : tie.Need-put_digits-requires-5
 put-digits-requires-5 c κs = search rules
 
-put-digits-requires-6 : tie.Need-put-digits-requires-6
+put-digits-requires-6 : tie.Need-put_digits-requires-6
 put-digits-requires-6 c κs = search rules
 
-put-digits-requires-7 : tie.Need-put-digits-requires-7
+put-digits-requires-7 : tie.Need-put_digits-requires-7
 put-digits-requires-7 c κs = search rules
 
-put-zone-requires : tie.Need-put-zone-requires
+put-zone-requires : tie.Need-put_zone-requires
 put-zone-requires c κs = search rules
 
-same_length : tie.Need-same-length
+same_length : tie.Need-shape_of-bytes
 same_length c = search rules
 
 returns : tie.Need-returns
@@ -42,7 +42,7 @@ returns c =
     let c2 = c3.before.before.before.before in
     let c1 = c2.before.before.before.before in
     let s = c1.before.before.before in
-    put_all s.args.f s.args.bytes.now s.requires.0 c1.put-digits.ensures c2.put-digits2.ensures c3.put-digits3.ensures c4.put-digits4.ensures c5.put-digits5.ensures c6.put-digits6.ensures c7.put-digits7.ensures z.put-zone.ensures
+    put_all s.args.f s.args.bytes.now s.requires.0 c1.put_digits.ensures c2.put_digits-2.ensures c3.put_digits-3.ensures c4.put_digits-4.ensures c5.put_digits-5.ensures c6.put_digits-6.ensures c7.put_digits-7.ensures z.put_zone.ensures
 
 pub put_fields_spec : {M : Type 1} → statement M
 put_fields_spec =

@@ -7,10 +7,10 @@ use Rattle.stamp.proofs.Lists.{most_at}
 use Rattle.stamp.proofs.zone.letters_of.Statement.{statement}
 use Rattle.stamp.proofs.zone.letters_of.Tie as tie
 
-mul-result : tie.Need-overflow-mul-result
+mul-result : tie.Need-offset_bounds-zone
 mul-result c = search rules
 
-array-read-result : tie.Need-array-read-result
+array-read-result : tie.Need-bounds-zone
 array-read-result c = search rules
 
 returns : tie.Need-returns

@@ -7,13 +7,13 @@ use Rattle.stamp.proofs.Lists.{most_at}
 use Rattle.stamp.proofs.zone.offset_of.Statement.{statement}
 use Rattle.stamp.proofs.zone.offset_of.Tie as tie
 
-mul-result : tie.Need-overflow-mul-result
+mul-result : tie.Need-offset_bounds-zone
 mul-result c = search rules
 
-array-read-result : tie.Need-array-read-result
+array-read-result : tie.Need-bounds-zone
 array-read-result c = search rules
 
-mul-result-2 : tie.Need-overflow-mul-result-2
+mul-result-2 : tie.Need-overflow_mul-result
 mul-result-2 c = omega (arith, most_at behind 8 refl c.args.zone)
 
 returns : tie.Need-returns
