@@ -15,6 +15,5 @@ bad_bid_profile_spec =
     (λ c κs. search rules)
     (λ c κs. search rules)
     (λ c.
-    let s = c.before.before.before.before in
-    bad_if_comes_lem s.args.words.now s.args.a (row s.args.hours s.args.l.now s.args.n) c.bad_if_comes_lem.ensures c.before.count_of.ensures.0
-    ∙ of_named (bad_if_comes s.args.words.now s.args.a) s.requires))
+    bad_if_comes_lem c.args.words.now c.args.a (row c.args.hours c.args.l.now c.args.n) c.bad_if_comes.ensures c.count_of.ensures.0
+    ∙ of_named (bad_if_comes c.args.words.now c.args.a) c.requires))

@@ -23,21 +23,16 @@ bid_spec =
     (λ c. search rules)
     (λ c. search rules)
     (λ c. search rules)
-    (λ c. omega (arith, c.row_at.ensures.fits, (sized c.before.before.before.requires.0).long))
+    (λ c. omega (arith, c.row_at-at.ensures.fits, (sized c.requires.0).long))
     (λ c κs.
-    let t = c.before in
-    let s = t.before.before.before in
-    let p = s.requires.0 in
-    let lent = row_lent (sized p) t.row_at.ensures in (
-      (row_lent_length (sized p) t.row_at.ensures, (sized p).hours),
+    let p = c.requires.0 in
+    let lent = row_lent (sized p) c.row_at-at.ensures in (
+      (row_lent_length (sized p) c.row_at-at.ensures, (sized p).hours),
       (
-        subst (λ (r : List ℕ). SoundWords s.args.hours r) (sym lent) (own_words p),
-        subst (λ (r : List ℕ). Suits s.args.words.now s.args.a r) (sym lent) s.requires.1,
+        subst (λ (r : List ℕ). SoundWords c.args.hours r) (sym lent) (own_words p),
+        subst (λ (r : List ℕ). Suits c.args.words.now c.args.a r) (sym lent) c.requires.1,
       ),
     ))
     (λ c. search rules)
     (λ c.
-    let g = c.before.before in
-    let t = g.before.before in
-    let s = t.before.before.before in
-    row_back (sized s.requires.0) t.row_at.ensures (bidden s.args.hours s.args.words.now s.args.a) g.bid-row.new.0 g.bid-row.auto.0 g.bid-row.ensures))
+    row_back (sized c.requires.0) c.row_at-at.ensures (bidden c.args.hours c.args.words.now c.args.a) c.bid_row.new.r c.bid_row.auto.r c.bid_row.ensures))

@@ -17,10 +17,9 @@ bid_confirm_number_spec =
     tie.close
     (tie.spec
     (λ c κs. search rules)
-    (λ c. hit _ _ _ (sym c.before.unfit-bid.ensures ∙ c.if1.true))
+    (λ c. hit _ _ _ (sym c.unfit_bid.ensures ∙ c.if-unfit_bid.true))
     (λ c κs. search rules)
     (λ c.
-    let s = c.before.before.before.before.before in
-    skip _ _ _ _ (sym c.before.before.unfit-bid.ensures ∙ c.before.if1.false)
-    (c.own-number.ensures
-    ∙ ap (λ (k : ℕ). confirm_number s.args.hours s.args.l.now k (in_force s.args.hours (row s.args.hours s.args.l.now k)) (has approved (row s.args.hours s.args.l.now k))) s.requires.0.is)))
+    skip _ _ _ _ (sym c.unfit_bid.ensures ∙ c.if-unfit_bid.false)
+    (c.own_number.ensures
+    ∙ ap (λ (k : ℕ). confirm_number c.args.hours c.args.l.now k (in_force c.args.hours (row c.args.hours c.args.l.now k)) (has approved (row c.args.hours c.args.l.now k))) c.requires.0.is)))

@@ -16,8 +16,8 @@ use Rattle.customer.proofs.bid_in_force.Statement.{statement}
 use Rattle.customer.proofs.bid_in_force.Tie as tie
 
 -- the profile that comes is one for the row
-came : (c : tie.Then1) → ProfilePassed c.before.before.before.before.args.words.now c.before.before.before.before.args.a (span_hours (row c.before.before.before.before.args.hours c.before.before.before.before.args.l.now c.before.before.before.before.args.n))
-came c = c.before.before.before.before.requires.1.profile (sym c.before.comes.ensures ∙ c.if1.true)
+came : (c : tie.Then-comes) → ProfilePassed c.args.words.now c.args.a (span_hours (row c.args.hours c.args.l.now c.args.n))
+came c = c.requires.1.profile (sym c.comes.ensures ∙ c.if-comes.true)
 
 pub bid_in_force_spec : {M : Type 1} → statement M
 unfolding requested_after profile
@@ -34,22 +34,19 @@ bid_in_force_spec =
     (λ c. omega (arith, (came c.before.before).fits))
     (λ c κs.
     let t = c.before.before.before in
-    let s = t.before.before.before.before in
-    let a = s.args.a in
-    (s.requires.0, lent_length s.args.words.now a.offset a.offset a.length refl (came t).ranges ∙ (came t).counted))
+    let a = t.args.a in
+    (t.requires.0, lent_length t.args.words.now a.offset a.offset a.length refl (came t).fits ∙ (came t).counted))
     (λ c.
     let t = c.before.before.before.before in
-    let s = t.before.before.before.before in
-    let a = s.args.a in
-    let r = row s.args.hours s.args.l.now s.args.n in
-    c.equals-in-force.ensures
-    ∙ ap (λ (v : List ℕ). equal v (in_force s.args.hours r))
-    (lent s.args.words.now a.offset a.offset a.length refl (came t).ranges ∙ hit (comes a) (profile s.args.words.now a) (requested s.args.hours r) (sym t.before.comes.ensures ∙ t.if1.true)))
+    let a = t.args.a in
+    let r = row t.args.hours t.args.l.now t.args.n in
+    c.equals_in_force.ensures
+    ∙ ap (λ (v : List ℕ). equal v (in_force t.args.hours r))
+    (lent t.args.words.now a.offset a.offset a.length refl (came t).fits ∙ hit (comes a) (profile t.args.words.now a) (requested t.args.hours r) (sym t.comes.ensures ∙ t.if-comes.true)))
     (λ c κs. search rules)
     (λ c.
-    let s = c.before.before.before.before.before in
-    let a = s.args.a in
-    let r = row s.args.hours s.args.l.now s.args.n in
-    c.requested-in-force.ensures
-    ∙ ap (λ (v : List ℕ). equal v (in_force s.args.hours r))
-    (skip (comes a) (requested s.args.hours r) (profile s.args.words.now a) (requested s.args.hours r) (sym c.before.before.comes.ensures ∙ c.before.if1.false) refl)))
+    let a = c.args.a in
+    let r = row c.args.hours c.args.l.now c.args.n in
+    c.requested_in_force.ensures
+    ∙ ap (λ (v : List ℕ). equal v (in_force c.args.hours r))
+    (skip (comes a) (requested c.args.hours r) (profile c.args.words.now a) (requested c.args.hours r) (sym c.comes.ensures ∙ c.if-comes.false) refl)))

@@ -20,9 +20,7 @@ bid_number_spec =
     (λ c. search choice depth 16)
     (λ c κs. search rules)
     (λ c κs.
-    let f = c.before.before.before.before in
-    let s = f.before.before.before.before in
-    let w = s.args.words.now in
-    (s.requires, suits w s.args.a (row s.args.hours s.args.l.now s.args.n) (of_named (bad_if_comes w s.args.a) s.requires ∙ sym f.before.bad-bid-profile.ensures ∙ f.if1.false)))
+    let w = c.args.words.now in
+    (c.requires, suits w c.args.a (row c.args.hours c.args.l.now c.args.n) (of_named (bad_if_comes w c.args.a) c.requires ∙ sym c.bad_bid_profile.ensures ∙ c.if-bad_bid_profile.false)))
     (λ c. search results depth 16)
     (λ c. search choice depth 16))

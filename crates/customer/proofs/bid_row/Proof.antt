@@ -17,12 +17,12 @@ use Rattle.rules.proofs.Passed.{ProfilePassed}
 use Rattle.customer.proofs.bid_row.Statement.{statement}
 use Rattle.customer.proofs.bid_row.Tie as tie
 
-abbrev S : tie.Else1 → tie.Start
+abbrev S : tie.Else-not-comes → tie.Start
 S c = c.before.before.before.before.before
 
 -- the profile that comes is one for the row
-came : (c : tie.Else1) → ProfilePassed (S c).args.words.now (S c).args.a (span_hours (S c).args.r.now)
-came c = (S c).requires.1.1.profile (sym c.before.comes.ensures ∙ not-false _ c.if1.false)
+came : (c : tie.Else-not-comes) → ProfilePassed (S c).args.words.now (S c).args.a (span_hours (S c).args.r.now)
+came c = (S c).requires.1.1.profile (sym c.comes.ensures ∙ c.if-not-comes.false)
 
 pub bid_row_spec : {M : Type 1} → statement M
 unfolding bidden profile
@@ -34,7 +34,7 @@ bid_row_spec =
     (λ c. search rules)
     (λ c κs. search rules)
     (λ c. search rules)
-    (λ c. skip _ _ _ _ (sym c.before.comes.ensures ∙ not-true _ c.if1.true) refl)
+    (λ c. skip _ _ _ _ (sym c.comes.ensures ∙ c.if-not-comes.true) refl)
     (λ c. search rules)
     (λ c. search rules)
     (λ c. search rules)
@@ -48,16 +48,16 @@ bid_row_spec =
     let a = s.args.a in
     let p = came t in (
       record {
-        long = length-set s.args.r.now 8 a.price ∙ s.pre.0.0;
-        fits = omega (arith, lent_length s.args.words.now a.offset a.offset a.length refl p.fits, p.counted, s.pre.1.0.starts, s.pre.1.0.stops);
+        long = length-set s.args.r.now 8 a.price ∙ s.requires.0.0;
+        fits = omega (arith, lent_length s.args.words.now a.offset a.offset a.length refl p.fits, p.counted, s.requires.1.0.starts, s.requires.1.0.stops);
       },
-      (s.pre.0.1, lit< tt),
+      (s.requires.0.1, lit< tt),
     ))
-    (λ c. let s = S c.before.before.before.before.before.before.before in c.before.before.set-hours.auto.0 ∙ length-set s.args.r.now 8 s.args.a.price)
+    (λ c. let s = S c.before.before.before.before.before.before.before in c.set_hours.auto.r ∙ length-set s.args.r.now 8 s.args.a.price)
     (λ c.
     let t = c.before.before.before.before.before.before.before in
     let s = S t in
     let a = s.args.a in
-    hit_by _ _ _ _ (sym t.before.comes.ensures ∙ not-false _ t.if1.false)
-    (c.before.before.set-hours.ensures
-    ∙ ap (λ (v : List ℕ). set_hours s.args.hours requested_part (start s.args.r.now) v (set_bid a.price s.args.r.now)) (lent s.args.words.now a.offset a.offset a.length refl (came t).ranges))))
+    hit_by _ _ _ _ (sym t.comes.ensures ∙ t.if-not-comes.false)
+    (c.set_hours.ensures
+    ∙ ap (λ (v : List ℕ). set_hours s.args.hours requested_part (start s.args.r.now) v (set_bid a.price s.args.r.now)) (lent s.args.words.now a.offset a.offset a.length refl (came t).fits))))

@@ -16,14 +16,9 @@ confirm_bid_spec =
     (tie.spec
     (λ c κs. search rules)
     (λ c κs.
-    let b = c.before.before.before in
-    let s = b.before.before.before.before in
-    asked_after s.requires.0 s.args.words.now s.args.a s.requires.1.0.1 s.requires.1.0.0 s.requires.1.1.0 b.bid.ensures s.requires.1.1.1.0 s.requires.1.1.1.1)
+    asked_after c.requires.0 c.args.words.now c.args.a c.requires.1.0.1 c.requires.1.0.0 c.requires.1.1.0 c.bid.ensures c.requires.1.1.1.0 c.requires.1.1.1.1)
     (λ c. search rules)
     (λ c.
-    let g = c.before.before in
-    let b = g.before.before.before.before in
-    let s = b.before.before.before.before in
-    g.confirm-own.ensures
-    ∙ ap (λ (v : List ℕ). confirm s.args.hours s.args.n v b.bid.new.0) (force_after s.requires.0 s.args.words.now s.args.a s.requires.1.0.1 s.requires.1.0.0 s.requires.1.1.0 b.bid.ensures)
-    ∙ ap (λ (x : List ℕ). confirm s.args.hours s.args.n (in_force s.args.hours (row s.args.hours s.args.l.now s.args.n)) x) b.bid.ensures))
+    c.confirm_own.ensures
+    ∙ ap (λ (v : List ℕ). confirm c.args.hours c.args.n v c.bid.new.l) (force_after c.requires.0 c.args.words.now c.args.a c.requires.1.0.1 c.requires.1.0.0 c.requires.1.1.0 c.bid.ensures)
+    ∙ ap (λ (x : List ℕ). confirm c.args.hours c.args.n (in_force c.args.hours (row c.args.hours c.args.l.now c.args.n)) x) c.bid.ensures))

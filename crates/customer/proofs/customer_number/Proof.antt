@@ -9,20 +9,19 @@ use Rattle.megawatts.proofs.Named.{named_at}
 use Rattle.customer.proofs.customer_number.Statement.{statement}
 use Rattle.customer.proofs.customer_number.Tie as tie
 
-abbrev S : tie.After-named → tie.Start
+abbrev S : tie.After-named-row → tie.Start
 S c = c.before.before.before.before.before.before.before
 
-names : (c : tie.After-named) → Named (S c).args.l.now (S c).args.rows (S c).args.hours (S c).args.a c.named.result.0
+names : (c : tie.After-named-row) → Named (S c).args.l.now (S c).args.rows (S c).args.hours (S c).args.a c.named-row.result.0
 names c =
-    let f = c.before.before.before in
-    named_at (S c).requires (S c).args.a (sym f.before.no-reference.ensures ∙ f.if1.false) c.named.ensures
+    named_at (S c).requires (S c).args.a (sym c.no_reference.ensures ∙ c.if-no_reference.false) c.named-row.ensures
 
 pub customer_number_spec : {M : Type 1} → statement M
 unfolding customer_number
 customer_number_spec =
     tie.close
     (tie.spec
-    (λ c κs. head_fits c.before.before.requires)
+    (λ c κs. head_fits c.requires)
     (λ c. search choice depth 16)
     (λ c κs. search rules)
     (λ c. search choice depth 16)

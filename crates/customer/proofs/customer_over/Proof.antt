@@ -16,16 +16,10 @@ customer_over_spec =
     (λ c κs. search rules)
     (λ c κs. search rules)
     (λ c κs.
-    let m = c.before.before in
-    let s = m.before.before.before in
-    (accepted_named s.requires.0 s.args.words.now s.args.a s.requires.1 m.named.ensures).placed)
+    (accepted_named c.requires.0 c.args.words.now c.args.a c.requires.1 c.named-row.ensures).placed)
     (λ c.
-    let t = c.before in
-    let m = t.before.before in
-    let s = m.before.before.before in
-    c.over-confirming-own.ensures
-    ∙ ap (λ (k : ℕ). over_confirming s.args.hours s.args.l.now k (in_force s.args.hours (row s.args.hours s.args.l.now k))) m.named.ensures
-    ∙ sym (over_confirmed s.requires.0 s.args.words.now s.args.a s.requires.1 (sym t.before.is-confirming.ensures ∙ t.if1.true)))
+    c.over_confirming_own.ensures
+    ∙ ap (λ (k : ℕ). over_confirming c.args.hours c.args.l.now k (in_force c.args.hours (row c.args.hours c.args.l.now k))) c.named-row.ensures
+    ∙ sym (over_confirmed c.requires.0 c.args.words.now c.args.a c.requires.1 (sym c.is_confirming.ensures ∙ c.if-is_confirming.true)))
     (λ c.
-    let s = c.before.before.before.before.before in
-    sym (over_never s.requires.0 s.args.words.now s.args.a s.requires.1 (sym c.before.is-confirming.ensures ∙ c.if1.false))))
+    sym (over_never c.requires.0 c.args.words.now c.args.a c.requires.1 (sym c.is_confirming.ensures ∙ c.if-is_confirming.false))))

@@ -15,14 +15,14 @@ use Rattle.customer.proofs.Laws.{accepted_named}
 use Rattle.customer.proofs.customer_uses.Statement.{statement}
 use Rattle.customer.proofs.customer_uses.Tie as tie
 
-abbrev S : tie.After-is-bid → tie.Start
+abbrev S : tie.After-is_bid → tie.Start
 S c = c.before.before.before.before.before
 
-bid : (c : tie.Else1) → bids (S c.before).args.a ≡ true
-bid c = sym c.before.is-bid.ensures ∙ not-false _ c.if1.false
+bid : (c : tie.Else-not-is_bid) → bids (S c.before).args.a ≡ true
+bid c = sym c.is_bid.ensures ∙ c.if-not-is_bid.false
 
-confirming : (c : tie.Else2) → confirms (S c.before.before.before).args.a ≡ true
-confirming c = sym c.before.is-confirming.ensures ∙ not-false _ c.if2.false
+confirming : (c : tie.Else-not-is_confirming) → confirms (S c.before.before.before).args.a ≡ true
+confirming c = sym c.is_confirming.ensures ∙ c.if-not-is_confirming.false
 
 pub customer_uses_spec : {M : Type 1} → statement M
 customer_uses_spec =
@@ -30,20 +30,20 @@ customer_uses_spec =
     (tie.spec
     (λ c κs. search rules)
     (λ c κs. search rules)
-    (λ c. and_stops _ _ (sym c.before.is-bid.ensures ∙ not-true _ c.if1.true))
+    (λ c. and_stops _ _ (sym c.is_bid.ensures ∙ c.if-not-is_bid.true))
     (λ c κs. search rules)
-    (λ c. and_goes _ _ _ (bid c.before.before) (and_stops _ _ (sym c.before.is-confirming.ensures ∙ not-true _ c.if2.true)))
+    (λ c. and_goes _ _ _ (bid c.before.before) (and_stops _ _ (sym c.is_confirming.ensures ∙ c.if-not-is_confirming.true)))
     (λ c κs.
     let o = c.before.before in
     let s = S o.before in
-    let e = o.before.before.named.ensures in (
-      s.pre.0,
+    let e = o.named-row.ensures in (
+      s.requires.0,
       (
-        (accepted_named s.pre.0 s.args.words.now s.args.a s.pre.1.0 e).placed.row,
+        (accepted_named s.requires.0 s.args.words.now s.args.a s.requires.1.0 e).placed.row,
         (
           ap (λ (k : ℕ). short s.args.hours s.args.l.now k (in_force s.args.hours (row s.args.hours s.args.l.now k))) e
-              ∙ (confirm_passed _ _ _ _ _ (((customer_status_passed s.args.hours s.args.l.now s.args.words.now s.args.a s.pre.1.0).bid (bid o)).confirms (confirming c))).short,
-          s.pre.1.1,
+              ∙ (confirm_passed _ _ _ _ _ (((customer_status_passed s.args.hours s.args.l.now s.args.words.now s.args.a s.requires.1.0).bid (bid o)).confirms (confirming c))).short,
+          s.requires.1.1,
         ),
       ),
     ))
@@ -52,4 +52,4 @@ customer_uses_spec =
     let o = k.before.before in
     let s = S o.before in
     and_goes _ _ _ (bid o) (and_goes _ _ _ (confirming k)
-    (c.exceeds-confirming-own.ensures ∙ ap (λ (j : ℕ). exceeds_own s.args.hours s.args.l.now j s.args.postings.now) o.before.before.named.ensures))))
+    (c.exceeds_confirming_own.ensures ∙ ap (λ (j : ℕ). exceeds_own s.args.hours s.args.l.now j s.args.postings.now) o.named-row.ensures))))

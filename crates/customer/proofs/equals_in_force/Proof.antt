@@ -23,9 +23,6 @@ equals_in_force_spec =
     (λ c. search rules)
     (λ c κs. search rules)
     (λ c.
-    let t = c.before.before in
-    let q = t.before in
-    let s = q.before.before.before in
-    c.all-equal.ensures
-    ∙ ap (λ (v : List ℕ). equal s.args.mw.now v)
-    (span_lent s.requires.0 q.profile-in-force.ensures.1 t.span_at.ensures (length s.args.mw.now) s.requires.1 ∙ in_force_by s.args.hours (row s.args.hours s.args.l.now s.args.n) q.profile-in-force.ensures.0)))
+    c.all_equal.ensures
+    ∙ ap (λ (v : List ℕ). equal c.args.mw.now v)
+    (span_lent c.requires.0 c.profile_in_force-p.ensures.1 c.span_at-from.ensures (length c.args.mw.now) c.requires.1 ∙ in_force_by c.args.hours (row c.args.hours c.args.l.now c.args.n) c.profile_in_force-p.ensures.0)))

@@ -14,5 +14,4 @@ no_customer_move_spec =
     (tie.spec
     (λ c κs. search placed)
     (λ c.
-    let s = c.before.before in
-    ap not c.customer-may-row.ensures ∙ of_named (no_customer_move s.args.a) s.requires))
+    ap not c.customer_may_row.ensures ∙ of_named (no_customer_move c.args.a) c.requires))

@@ -16,5 +16,4 @@ not_customer_spec =
     (tie.spec
     (λ c κs. search placed)
     (λ c.
-    let s = c.before.before.before in
-    ap (λ (k : ℕ). not (eqb s.args.a.actor k)) c.before.word_at.ensures ∙ of_named (not_customer s.args.a) s.requires))
+    ap (λ (k : ℕ). not (eqb c.args.a.actor k)) c.word_at.ensures ∙ of_named (not_customer c.args.a) c.requires))

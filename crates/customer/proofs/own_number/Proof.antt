@@ -19,7 +19,6 @@ own_number_spec =
     (λ c κs. search rules)
     (λ c κs. search rules)
     (λ c.
-    let s = c.before.before.before.before in
-    c.confirm-own-number.ensures
-    ∙ ap (λ (b : Bool). confirm_number s.args.hours s.args.l.now s.args.n (in_force s.args.hours (row s.args.hours s.args.l.now s.args.n)) b)
-    (c.before.has-flag.ensures ∙ ap (λ (k : ℕ). has_flag approved k) c.before.before.word_at.ensures)))
+    c.confirm_own_number.ensures
+    ∙ ap (λ (b : Bool). confirm_number c.args.hours c.args.l.now c.args.n (in_force c.args.hours (row c.args.hours c.args.l.now c.args.n)) b)
+    (c.has_flag-approved.ensures ∙ ap (λ (k : ℕ). has_flag approved k) c.word_at.ensures)))

@@ -25,8 +25,6 @@ requested_in_force_spec =
     (λ c. search rules)
     (λ c κs. search rules)
     (λ c.
-    let t = c.before.before in
-    let s = t.before.before.before in
-    c.equals-in-force.ensures
-    ∙ ap (λ (v : List ℕ). equal v (in_force s.args.hours (row s.args.hours s.args.l.now s.args.n)))
-    (span_lent {q = requested_part} s.requires (lit< tt) t.span_at.ensures t.before.count_of.result t.before.count_of.ensures.0)))
+    c.equals_in_force.ensures
+    ∙ ap (λ (v : List ℕ). equal v (in_force c.args.hours (row c.args.hours c.args.l.now c.args.n)))
+    (span_lent {q = requested_part} c.requires (lit< tt) c.span_at-from.ensures c.count_of-count.result c.count_of-count.ensures.0)))

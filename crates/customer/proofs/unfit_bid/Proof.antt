@@ -17,11 +17,9 @@ unfit_bid_spec =
     (tie.spec
     (λ c κs. search placed)
     (λ c.
-    let s = c.before.before.before.before.before in
-    ap not (and_stops _ _ (ne_eqb _ _ (λ e. c.if1.true (e ∙ sym c.before.before.word_at.ensures))))
-    ∙ of_named (unfit_bid s.args.hours s.args.words.now s.args.a) s.requires.0)
+    ap not (and_stops _ _ (ne_eqb _ _ (λ e. c.if-a-word_at.true (e ∙ sym c.word_at.ensures))))
+    ∙ of_named (unfit_bid c.args.hours c.args.words.now c.args.a) c.requires.0)
     (λ c κs. search rules)
     (λ c.
-    let s = c.before.before.before.before.before.before in
-    ap not (and_goes _ _ _ (eq-eqb _ _ (c.before.if1.false ∙ c.before.before.before.word_at.ensures)) c.bid-in-force.ensures)
-    ∙ of_named (unfit_bid s.args.hours s.args.words.now s.args.a) s.requires.0))
+    ap not (and_goes _ _ _ (eq-eqb _ _ (c.if-a-word_at.false ∙ c.word_at.ensures)) c.bid_in_force.ensures)
+    ∙ of_named (unfit_bid c.args.hours c.args.words.now c.args.a) c.requires.0))

@@ -18,10 +18,9 @@ cents_of_spec =
     (λ c κs. search rules)
     (λ c κs. search placed)
     (λ c κs.
-    let p = c.before.before.before.requires in
-    (omega (arith, c.before.hours-total.ensures, granted_most p), omega (arith, c.word_at.ensures, (own_words p).bid)))
+    let p = c.requires in
+    (omega (arith, c.hours_total-energy.ensures, granted_most p), omega (arith, c.word_at.ensures, (own_words p).bid)))
     (λ c.
-    let s = c.before.before.before.before in
     c.cents.ensures
-    ∙ ap (λ (x : ℕ). cents x c.before.word_at.result) c.before.before.hours-total.ensures
-    ∙ ap (λ (x : ℕ). cents (total (granted s.args.hours (row s.args.hours s.args.l.now s.args.n))) x) c.before.word_at.ensures))
+    ∙ ap (λ (x : ℕ). cents x c.word_at.result) c.hours_total-energy.ensures
+    ∙ ap (λ (x : ℕ). cents (total (granted c.args.hours (row c.args.hours c.args.l.now c.args.n))) x) c.word_at.ensures))

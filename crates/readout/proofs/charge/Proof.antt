@@ -13,42 +13,39 @@ use Rattle.readout.proofs.charge.Statement.{statement}
 use Rattle.readout.proofs.charge.Tie as tie
 
 -- what was not turned away
-is-sound : (c : tie.Else1) → sound c.before.before.before.args.l.now ≡ true
-is-sound c = sym c.before.sound.ensures ∙ not-false _ c.if1.false
+is-sound : (c : tie.Else-not-sound) → sound c.args.l.now ≡ true
+is-sound c = sym c.sound.ensures ∙ c.if-not-sound.false
 
-is-issued : (c : tie.Else2) → issued c.before.before.before.before.before.args.l.now c.before.before.before.before.before.args.reference ≡ true
-is-issued c = sym c.before.is-issued.ensures ∙ not-false _ c.if2.false
+is-issued : (c : tie.Else-not-is_issued) → issued c.args.l.now c.args.reference ≡ true
+is-issued c = sym c.is_issued.ensures ∙ c.if-not-is_issued.false
 
-abbrev S : tie.After-row-of → tie.Start
+abbrev S : tie.After-row_of-n → tie.Start
 S c = c.before.before.before.before.before.before.before.before
 
-is-placed : (c : tie.After-row-of) → Placed (S c).args.l.now (rows (S c).args.l.now) (hours (S c).args.l.now) c.row_of.result.0
+is-placed : (c : tie.After-row_of-n) → Placed (S c).args.l.now (rows (S c).args.l.now) (hours (S c).args.l.now) c.row_of-n.result.0
 is-placed c =
     let e = c.before.before.before in
-    placed_row _ _ (is-sound e.before.before) (is-issued e) refl refl c.row_of.ensures
+    placed_row _ _ (is-sound e.before.before) (is-issued e) refl refl c.row_of-n.ensures
 
 pub charge_spec : {M : Type 1} → statement M
 charge_spec =
     tie.close
     (tie.spec
     (λ c κs. search rules)
-    (λ c. charge_unsound _ _ (sym c.before.sound.ensures ∙ not-true _ c.if1.true))
+    (λ c. charge_unsound _ _ (sym c.sound.ensures ∙ c.if-not-sound.true))
     (λ c κs. head_read _ (is-sound c))
-    (λ c. charge_unissued _ _ (is-sound c.before.before) (sym c.before.is-issued.ensures ∙ not-true _ c.if2.true))
+    (λ c. charge_unissued _ _ (is-sound c.before.before) (sym c.is_issued.ensures ∙ c.if-not-is_issued.true))
     (λ c. omega (arith, head_read _ (is-sound c.before.before.before)))
-    (λ c. omega (arith, c.shared-slice-known2.given 0))
+    (λ c. omega (arith, c.shared_slice_known-2-1.given 0))
     (λ c. omega (arith, head_read _ (is-sound c.before.before.before.before)))
-    (λ c. omega (arith, c.shared-slice-known3.given 1))
+    (λ c. omega (arith, c.shared_slice_known-3-1.given 1))
     (λ c κs. search rules)
     (λ c κs. (sized (is-placed c), in_rows (is-placed c)))
     (λ c.
-    let w = c.before.before in
-    let e = w.before.before.before in
-    charge_unconfirmed _ _ (is-sound e.before.before) (is-issued e) refl w.row_of.ensures (sym c.before.is-confirmed.ensures ∙ not-true _ c.if3.true))
+    let e = c.before.before.before.before.before in
+    charge_unconfirmed _ _ (is-sound e.before.before) (is-issued e) refl c.row_of-n.ensures (sym c.is_confirmed.ensures ∙ c.if-not-is_confirmed.true))
     (λ c κs. is-placed c.before.before)
     (λ c.
-    let n = c.before in
-    let w = n.before.before in
-    let e = w.before.before.before in
-    let r = charge_is _ _ (is-sound e.before.before) (is-issued e) refl w.row_of.ensures (sym n.before.is-confirmed.ensures ∙ not-false _ n.if3.false) in
-    (r.0, c.cents-of.ensures ∙ r.1)))
+    let e = c.before.before.before.before.before.before in
+    let r = charge_is _ _ (is-sound e.before.before) (is-issued e) refl c.row_of-n.ensures (sym c.is_confirmed.ensures ∙ c.if-not-is_confirmed.false) in
+    (r.0, c.cents_of.ensures ∙ r.1)))

@@ -29,8 +29,4 @@ in_force_of_spec =
     (λ c. search rules)
     (λ c κs. search rules)
     (λ c.
-    let f = c.before.before.before in
-    let g = f.before.before in
-    let q = g.before in
-    let k = q.before in
-    c.in_force_lem.ensures ∙ force_lent k.before.before.requires q.span_at.ensures g.span-at2.ensures k.count_of.ensures.0 (f.has-flag.ensures ∙ ap (has_flag granted_given) f.before.word_at.ensures)))
+    c.in_force.ensures ∙ force_lent c.requires c.span_at-q.ensures c.span_at-g.ensures c.count_of-count.ensures.0 (c.has_flag-given.ensures ∙ ap (has_flag granted_given) c.word_at.ensures)))

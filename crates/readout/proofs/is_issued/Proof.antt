@@ -6,4 +6,4 @@ use Rattle.readout.proofs.is_issued.Tie as tie
 
 pub is_issued_spec : {M : Type 1} → statement M
 unfolding issued
-is_issued_spec = tie.close (tie.spec (λ c. search rules) (λ c κs. search rules) (λ c. c.is-from.ensures))
+is_issued_spec = tie.close (tie.spec (λ c. search rules) (λ c κs. search rules) (λ c. c.is_from.ensures))

@@ -11,11 +11,11 @@ use Rattle.readout.proofs.profile_in_force.Statement.{statement}
 use Rattle.readout.proofs.profile_in_force.Tie as tie
 
 -- what was not turned away
-is-sound : (c : tie.Else1) → sound c.before.before.before.args.l.now ≡ true
-is-sound c = sym c.before.sound.ensures ∙ not-false _ c.if1.false
+is-sound : (c : tie.Else-not-sound) → sound c.args.l.now ≡ true
+is-sound c = sym c.sound.ensures ∙ c.if-not-sound.false
 
-is-issued : (c : tie.Else2) → issued c.before.before.before.before.before.args.l.now c.before.before.before.before.before.args.reference ≡ true
-is-issued c = sym c.before.is-issued.ensures ∙ not-false _ c.if2.false
+is-issued : (c : tie.Else-not-is_issued) → issued c.args.l.now c.args.reference ≡ true
+is-issued c = sym c.is_issued.ensures ∙ c.if-not-is_issued.false
 
 pub profile_in_force_spec : {M : Type 1} → statement M
 profile_in_force_spec =
@@ -23,18 +23,18 @@ profile_in_force_spec =
     (tie.spec
     (λ c κs. search rules)
     (λ c. search rules)
-    (λ c. shown_none _ _ (unsound_none _ _ (sym c.before.before.sound.ensures ∙ not-true _ c.before.if1.true)))
+    (λ c. shown_none _ _ (unsound_none _ _ (sym c.sound.ensures ∙ c.if-not-sound.true)))
     (λ c κs. head_read _ (is-sound c))
     (λ c. search rules)
-    (λ c. shown_none _ _ (unissued_none _ _ (is-sound c.before.before.before) (sym c.before.before.is-issued.ensures ∙ not-true _ c.before.if2.true)))
+    (λ c. shown_none _ _ (unissued_none _ _ (is-sound c.before.before) (sym c.is_issued.ensures ∙ c.if-not-is_issued.true)))
     (λ c. omega (arith, head_read _ (is-sound c.before.before.before)))
-    (λ c. omega (arith, c.shared-slice-known2.given 0))
+    (λ c. omega (arith, c.shared_slice_known-2-1.given 0))
     (λ c. omega (arith, head_read _ (is-sound c.before.before.before.before)))
-    (λ c. omega (arith, c.shared-slice-known3.given 1))
+    (λ c. omega (arith, c.shared_slice_known-3-1.given 1))
     (λ c κs. search rules)
     (λ c κs.
     let e = c.before.before.before in
-    placed_row _ _ (is-sound e.before.before) (is-issued e) refl refl c.row_of.ensures)
+    placed_row _ _ (is-sound e.before.before) (is-issued e) refl refl c.row_of-n.ensures)
     (λ c.
     let e = c.before.before.before.before in
-    c.in-force-of.ensures ∙ shown_some _ _ (is-sound e.before.before) (is-issued e) refl c.before.row_of.ensures))
+    c.in_force_of.ensures ∙ shown_some _ _ (is-sound e.before.before) (is-issued e) refl c.row_of-n.ensures))
