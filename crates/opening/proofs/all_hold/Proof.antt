@@ -17,21 +17,18 @@ all_hold_spec =
     (λ c. search rules)
     (λ c. search rules)
     (λ c.
-    let r = c.before.before.before.before.before.before.before.before.before in
-    let s = r.before.before.before.before.before.before.before.before.before.before in
-    and_stops _ _ (sym (rows_told s.requires.0 s.requires.1.0 r.rows-hold.ensures) ∙ not-true _ c.if1.true))
+    and_stops _ _ (sym (rows_told c.requires.0 c.requires.1.0 c.rows_hold.ensures) ∙ c.if-not-rows_hold.true))
     (λ c κs.
-    let r = c.before.before.before.before.before.before.before.before.before.before.before.before.before in
-    let p = r.before.before.before.before.before.before.before.before.before.before.requires in
+    let p = c.requires in
     let l = p.1.1 in (
       p.0,
       (
         p.1.0,
         record {
-          links_long = r.rows-hold.auto.0 ∙ l.links_long;
-          lasts_long = r.rows-hold.auto.1.0 ∙ l.lasts_long;
-          befores_long = r.rows-hold.auto.1.1.0 ∙ l.befores_long;
-          sums_long = r.rows-hold.auto.1.1.1.0 ∙ l.sums_long;
+          links_long = c.rows_hold.auto.links ∙ l.links_long;
+          lasts_long = c.rows_hold.auto.lasts ∙ l.lasts_long;
+          befores_long = c.rows_hold.auto.befores ∙ l.befores_long;
+          sums_long = c.rows_hold.auto.sums ∙ l.sums_long;
         },
       ),
     ))
@@ -40,8 +37,4 @@ all_hold_spec =
     (λ c. search rules)
     (λ c. search rules)
     (λ c.
-    let t = c.before.before.before.before.before.before.before.before in
-    let i = t.before.before.before.before.before in
-    let r = i.before.before.before.before.before.before.before.before.before in
-    let s = r.before.before.before.before.before.before.before.before.before.before in
-    and_goes _ _ _ (sym (rows_told s.requires.0 s.requires.1.0 r.rows-hold.ensures) ∙ not-false _ i.if1.false) (trees_told s.args.hours s.args.l.now s.args.used t.rows-hold2.ensures)))
+    and_goes _ _ _ (sym (rows_told c.requires.0 c.requires.1.0 c.rows_hold.ensures) ∙ c.if-not-rows_hold.false) (trees_told c.args.hours c.args.l.now c.args.used c.rows_hold-2.ensures)))

@@ -25,17 +25,17 @@ pub balanced_spec : {M : Type 1} → statement M
 balanced_spec =
     tie.close
     (tie.spec
-    (λ c. let p = c.before.requires in rows_fit p.0 p.1)
-    (λ c. let p = c.before.before.requires in sym (length-take-le _ _ (rows_fit p.0 p.1)))
-    (λ c. let p = c.before.before.requires in omega (arith, rows_fit p.0 p.1))
-    (λ c. let p = c.before.before.requires in lasts_fit p.0 p.1)
-    (λ c. let p = c.before.before.before.requires in sym (length-take-le _ _ (lasts_fit p.0 p.1)))
-    (λ c. let p = c.before.before.before.requires in rows_fit p.0 p.1)
-    (λ c. let p = c.before.before.before.before.requires in sym (length-take-le _ _ (rows_fit p.0 p.1)))
-    (λ c. let p = c.before.before.before.before.requires in hours-fit p.0)
-    (λ c. let p = c.before.before.before.before.before.requires in sym (length-take-le _ _ (hours-fit p.0)))
+    (λ c. let p = c.requires in rows_fit p.0 p.1)
+    (λ c. let p = c.requires in sym (length-take-le _ _ (rows_fit p.0 p.1)))
+    (λ c. let p = c.requires in omega (arith, rows_fit p.0 p.1))
+    (λ c. let p = c.requires in lasts_fit p.0 p.1)
+    (λ c. let p = c.requires in sym (length-take-le _ _ (lasts_fit p.0 p.1)))
+    (λ c. let p = c.requires in rows_fit p.0 p.1)
+    (λ c. let p = c.requires in sym (length-take-le _ _ (rows_fit p.0 p.1)))
+    (λ c. let p = c.requires in hours-fit p.0)
+    (λ c. let p = c.requires in sym (length-take-le _ _ (hours-fit p.0)))
     (λ c κs.
-    let p = c.before.before.before.before.before.requires in (
+    let p = c.requires in (
       p.0,
       (
         p.1,
@@ -47,4 +47,4 @@ balanced_spec =
         },
       ),
     ))
-    (λ c. c.before.before.before.before.all_hold.ensures))
+    (λ c. c.all_hold.ensures))

@@ -11,4 +11,4 @@ has_equation_spec =
     (tie.spec
     (λ c κs. search rules)
     (λ c κs. search rules)
-    (λ c. simp (c.before.stands.ensures, c.word_at.ensures)))
+    (λ c. simp (c.stands-standing.ensures, c.word_at-reqtype.ensures)))

@@ -12,4 +12,4 @@ has_tree_spec =
     (λ c κs. search rules)
     (λ c κs. search rules)
     (λ c κs. search rules)
-    (λ c. simp (c.before.before.stands.ensures, c.is-original.ensures, c.before.word_at.ensures)))
+    (λ c. simp (c.stands-standing.ensures, c.is_original-original.ensures, c.word_at-reqtype.ensures)))

@@ -30,10 +30,10 @@ unfolding open_number unbalanced
 judged l b e q = ap (λ (x : Bool). not x gives 20 else 0) q ∙ sym (ap (λ (b : Bool). not b gives 1 else (unbalanced l gives 20 else 0)) e)
 
 -- what the test of soundness said, where it passed
-is-sound : (x : tie.Else1) → sound x.before.before.before.args.l.now ≡ true
-is-sound x = sym x.before.sound.ensures ∙ not-false _ x.if1.false
+is-sound : (x : tie.Else-not-sound) → sound x.args.l.now ≡ true
+is-sound x = sym x.sound.ensures ∙ x.if-not-sound.false
 
-long : (x : tie.Else1) → 8 ≤ length x.before.before.before.args.l.now
+long : (x : tie.Else-not-sound) → 8 ≤ length x.args.l.now
 long x = head_fits (at_own (is-sound x))
 
 pub open_number_spec : {M : Type 1} → statement M
@@ -41,17 +41,15 @@ open_number_spec =
     tie.close
     (tie.spec
     (λ c κs. search rules)
-    (λ c. unsound _ (sym c.before.sound.ensures ∙ not-true _ c.if1.true))
+    (λ c. unsound _ (sym c.sound.ensures ∙ c.if-not-sound.true))
     (λ c. omega (arith, long c.before))
-    (λ c. omega (arith, c.shared-slice-known2.given 0))
+    (λ c. omega (arith, c.shared_slice_known-2-1.given 0))
     (λ c. omega (arith, long c.before.before))
-    (λ c. omega (arith, c.shared-slice-known3.given 1))
+    (λ c. omega (arith, c.shared_slice_known-3-1.given 1))
     (λ c. omega (arith, long c.before.before.before))
-    (λ c. omega (arith, c.shared-slice-known4.given 6))
-    (λ c κs. (at_own (is-sound c.before.before.before), refl))
+    (λ c. omega (arith, c.shared_slice_known-4-1.given 6))
+    (λ c κs. (at_own (is-sound c.before.before.before.before), refl))
     (λ c.
-    let b = c.before in
-    ap (λ (x : Bool). x gives 20 else 0) (sym c.if2.true) ∙ judged _ b.balanced.result (is-sound b.before.before.before.before) b.balanced.ensures)
+    ap (λ (x : Bool). x gives 20 else 0) (sym (ap not c.if-not-balanced.true)) ∙ judged _ c.balanced.result (is-sound c.before.before.before.before.before) c.balanced.ensures)
     (λ c.
-    let b = c.before in
-    ap (λ (x : Bool). x gives 20 else 0) (sym c.if2.false) ∙ judged _ b.balanced.result (is-sound b.before.before.before.before) b.balanced.ensures))
+    ap (λ (x : Bool). x gives 20 else 0) (sym (ap not c.if-not-balanced.false)) ∙ judged _ c.balanced.result (is-sound c.before.before.before.before.before) c.balanced.ensures))

@@ -10,17 +10,11 @@ pub row_balanced_spec : {M : Type 1} → statement M
 row_balanced_spec =
     tie.close
     (tie.spec
-    (λ c κs. let p = c.before.before.before.before.requires in (sized_at p.0, in_rows p.0 p.1.1.0))
+    (λ c κs. let p = c.requires in (sized_at p.0, in_rows p.0 p.1.1.0))
     (λ c.
-    let e = c.before in
-    let s = e.before.before.before.before.before in
-    untold s.requires.0 s.requires.1.1.0 s.args.tree e.is-tested.ensures (not-true _ c.if1.true))
+    untold c.requires.0 c.requires.1.1.0 c.args.tree c.is_tested.ensures c.if-not-is_tested.true)
     (λ c κs. search rules)
     (λ c κs. search rules)
     (λ c. search rules)
     (λ c.
-    let t = c.before.before.before.before in
-    let i = t.before.before in
-    let e = i.before in
-    let s = e.before.before.before.before.before in
-    told s.requires.0 s.requires.1.1.0 s.args.tree e.is-tested.ensures (not-false _ i.if1.false) t.sum_rows.ensures c.equals-hours.ensures))
+    told c.requires.0 c.requires.1.1.0 c.args.tree c.is_tested.ensures c.if-not-is_tested.false c.sum_rows.ensures c.equals_hours.ensures))

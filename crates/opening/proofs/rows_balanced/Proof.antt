@@ -9,7 +9,7 @@ use Rattle.opening.specs.Shares.{balanced_by}
 use Rattle.opening.proofs.rows_balanced.Statement.{statement}
 use Rattle.opening.proofs.rows_balanced.Tie as tie
 
-abbrev invariant-loop : tie.invariant-loop
+abbrev invariant-loop : tie.invariant-loop-n
 invariant-loop sums₀ lasts befores l rows hours used tree n₀ sums n = Passing used (λ k. balanced_by tree hours l k) used n × (length sums ≡ hours)
 
 pub rows_balanced_spec : {M : Type 1} → statement M
@@ -18,25 +18,16 @@ rows_balanced_spec =
     (tie.spec
     invariant-loop
     (λ sums₀ lasts befores l rows hours used tree n₀ sums n. used - n)
-    (λ c. let s = c.before.before.before.before in (passing_start _ _, s.requires.1.1.1))
+    (λ c. (passing_start _ _, c.requires.1.1.1))
     (λ c κs.
-    let i = c.before.before in
-    let s = i.before.before.before.before.before in
-    (s.requires.0, (s.requires.1.0, (omega (arith, s.requires.1.1.0, c.before.loop-test.true), i.loop.invariant.1))))
+    (c.requires.0, (c.requires.1.0, (omega (arith, c.requires.1.1.0, c.loop-n-test.true), c.loop-n.invariant.1))))
     (λ c.
-    let t = c.before.before.before in
-    let i = t.before.before.before in
-    let s = i.before.before.before.before.before in
-    t.row-balanced.auto.0 ∙ i.loop.invariant.1 ∙ sym s.requires.1.1.1)
+    c.row_balanced.auto.sums ∙ c.loop-n.invariant.1 ∙ sym c.requires.1.1.1)
     (λ c.
-    let t = c.before.before.before in
-    let i = t.before.before.before in
-    passing_fails i.loop.invariant.0 (omega arith) (sym t.row-balanced.ensures ∙ not-true _ c.if1.true))
+    passing_fails c.loop-n.invariant.0 (omega arith) (sym c.row_balanced.ensures ∙ c.if-not-row_balanced.true))
     (λ c. omega arith)
     (λ c. omega arith)
     (λ c.
-    let t = c.before.before.before in
-    let i = t.before.before.before in
-    (passing_turn i.loop.invariant.0 (omega arith) (sym t.row-balanced.ensures ∙ not-false _ c.if1.false), t.row-balanced.auto.0 ∙ i.loop.invariant.1))
-    (λ c. let i = c.before in let s = i.before.before.before.before.before in i.loop.invariant.1 ∙ sym s.requires.1.1.1)
-    (λ c. passing_done c.before.loop.invariant.0 (omega arith)))
+    (passing_turn c.loop-n.invariant.0 (omega arith) (sym c.row_balanced.ensures ∙ c.if-not-row_balanced.false), c.row_balanced.auto.sums ∙ c.loop-n.invariant.1))
+    (λ c. c.loop-n.invariant.1 ∙ sym c.requires.1.1.1)
+    (λ c. passing_done c.loop-n.invariant.0 (omega arith)))

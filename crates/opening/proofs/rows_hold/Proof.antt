@@ -9,9 +9,8 @@ rows_hold_spec =
     (tie.spec
     (λ c κs. search rules)
     (λ c κs.
-    let k = c.before.before.before.before.before.before.before.before.before in
-    let p = k.before.before.before.before.before.before.before.before.before.requires in
-    (p.0, (k.chain-rows.ensures, (p.1.0, p.1.1.sums_long))))
+    let p = c.requires in
+    (p.0, (c.chain_rows.ensures, (p.1.0, p.1.1.sums_long))))
     (λ c. search rules)
     (λ c. search rules)
     (λ c. search rules)

@@ -12,17 +12,9 @@ start_sums_spec =
     (λ c κs. search rules)
     (λ c. search rules)
     (λ c.
-    let k = c.before.before.before in
-    let s = k.before.before.before.before in
-    start_none s.requires.0 s.requires.1.0 c.if1.true s.args.sums.now s.requires.1.1 k.clear.ensures)
+    start_none c.requires.0 c.requires.1.0 c.if-tree.true c.args.sums.now c.requires.1.1 c.clear.ensures)
     (λ c κs.
-    let k = c.before.before.before.before in
-    let s = k.before.before.before.before in
-    (s.requires.0, (s.requires.1.0, sums_wider (omega arith) (sums_none s.args.hours s.args.sums.now s.requires.1.1 k.clear.ensures))))
+    (c.requires.0, (c.requires.1.0, sums_wider (omega arith) (sums_none c.args.hours c.args.sums.now c.requires.1.1 c.clear.ensures))))
     (λ c. search rules)
     (λ c.
-    let a = c.before.before in
-    let i = a.before.before in
-    let k = i.before.before.before in
-    let s = k.before.before.before.before in
-    start_held s.requires.0 s.requires.1.0 i.if1.false s.args.sums.now s.requires.1.1 k.clear.ensures a.add-held.ensures))
+    start_held c.requires.0 c.requires.1.0 c.if-tree.false c.args.sums.now c.requires.1.1 c.clear.ensures c.add_held.ensures))

@@ -14,12 +14,7 @@ sum_rows_spec =
     (λ c. search rules)
     (λ c. search rules)
     (λ c κs.
-    let o = c.before.before.before.before in
-    let s = o.before.before.before.before.before.before in
-    (s.requires.0, (chained_falls s.requires.1.0, (last_in s.requires.0 s.requires.1.1.0 s.args.tree s.requires.1.0, start_room s.requires.0 s.requires.1.1.0 s.args.tree o.start-sums.ensures))))
+    (c.requires.0, (chained_falls c.requires.1.0, (last_in c.requires.0 c.requires.1.1.0 c.args.tree c.requires.1.0, start_room c.requires.0 c.requires.1.1.0 c.args.tree c.start_sums.ensures))))
     (λ c. search rules)
     (λ c.
-    let d = c.before.before in
-    let o = d.before.before.before.before.before in
-    let s = o.before.before.before.before.before.before in
-    rows_summed s.requires.0 s.requires.1.1.0 s.args.tree s.requires.1.0 o.start-sums.ensures d.add-chain.ensures))
+    rows_summed c.requires.0 c.requires.1.1.0 c.args.tree c.requires.1.0 c.start_sums.ensures c.add_chain.ensures))

@@ -11,9 +11,8 @@ chain_spec =
     (tie.spec
     (λ c κs. search rules)
     (λ c κs.
-    let k = c.before.before.before.before in
-    let p = k.before.before.before.before.before.requires in
-    (record { lasts_long = k.clear.auto.0 ∙ p.lasts_long; befores_long = p.befores_long; few = p.few; low = p.low }, k.clear.ensures ∙ ap noughts (sym k.clear.auto.0)))
+    let p = c.requires in
+    (record { lasts_long = c.clear.auto.dst ∙ p.lasts_long; befores_long = p.befores_long; few = p.few; low = p.low }, c.clear.ensures ∙ ap noughts (sym c.clear.auto.dst)))
     (λ c. search rules)
     (λ c. search rules)
     (λ c. search rules))

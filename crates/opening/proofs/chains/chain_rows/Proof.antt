@@ -12,15 +12,10 @@ chain_rows_spec =
     (tie.spec
     (λ c κs. search rules)
     (λ c κs.
-    let k = c.before.before.before.before.before in
-    let s = k.before.before.before.before.before.before in
-    links_unchained s.requires.0 (λ n. link_of s.args.tree s.args.hours s.args.l.now n) k.link-rows.ensures
-    (link_low (relations_at s.requires.0) s.args.tree) s.requires.1.1 s.requires.1.2)
+    links_unchained c.requires.0 (λ n. link_of c.args.tree c.args.hours c.args.l.now n) c.link_rows.ensures
+    (link_low (relations_at c.requires.0) c.args.tree) c.requires.1.1 c.requires.1.2)
     (λ c. search rules)
     (λ c. search rules)
     (λ c. search rules)
     (λ c.
-    let h = c.before.before.before.before in
-    let k = h.before.before.before.before.before.before in
-    let s = k.before.before.before.before.before.before in
-    links_chained s.requires.0 (λ n. link_of s.args.tree s.args.hours s.args.l.now n) k.link-rows.ensures h.chain.ensures))
+    links_chained c.requires.0 (λ n. link_of c.args.tree c.args.hours c.args.l.now n) c.link_rows.ensures c.chain.ensures))

@@ -10,7 +10,7 @@ use Rattle.opening.proofs.Added.{in_rows}
 use Rattle.opening.proofs.chains.link_draws.Statement.{statement}
 use Rattle.opening.proofs.chains.link_draws.Tie as tie
 
-abbrev invariant-loop : tie.invariant-loop
+abbrev invariant-loop : tie.invariant-loop-n
 invariant-loop links₀ l rows hours n₀ n-end links n = Filling links₀ (λ k. draw_link hours l k) n-end links n
 
 pub link_draws_spec : {M : Type 1} → statement M
@@ -21,15 +21,13 @@ link_draws_spec =
     (λ links₀ l rows hours n₀ n-end links n. n-end - n)
     (λ c. filling_start _ _)
     (λ c κs.
-    let i = c.before in
-    let p = i.before.before.before.requires in
-    (sized_at p.0, in_rows p.0 (omega (arith, i.loop.invariant.ended, p.1))))
+    let p = c.requires in
+    (sized_at p.0, in_rows p.0 (omega (arith, c.loop-n.invariant.ended, p.1))))
     (λ c. omega arith)
-    (λ c. let i = c.before.before in omega (arith, i.loop.invariant.ended, i.loop.invariant.long))
+    (λ c. omega (arith, c.loop-n.invariant.ended, c.loop-n.invariant.long))
     (λ c. omega arith)
     (λ c. omega arith)
-    (λ c. filling_turn c.before.before.loop.invariant (omega arith) _ c.draw-link.ensures)
-    (λ c. c.before.loop.invariant.long)
+    (λ c. filling_turn c.loop-n.invariant (omega arith) _ c.draw_link.ensures)
+    (λ c. c.loop-n.invariant.long)
     (λ c.
-    let s = c.before.before.before.before in
-    filling_done c.before.loop.invariant (omega arith) ∙ ap (λ (k : ℕ). build k (λ n. draw_link s.args.hours s.args.l.now n)) s.requires.1))
+    filling_done c.loop-n.invariant (omega arith) ∙ ap (λ (k : ℕ). build k (λ n. draw_link c.args.hours c.args.l.now n)) c.requires.1))

@@ -16,22 +16,22 @@ use Rattle.opening.proofs.Added.{in_rows, few}
 use Rattle.opening.proofs.chains.link_roots.Statement.{statement}
 use Rattle.opening.proofs.chains.link_roots.Tie as tie
 
-abbrev invariant-loop : tie.invariant-loop
+abbrev invariant-loop : tie.invariant-loop-n
 invariant-loop links₀ l rows hours n₀ n-end links n = Filling links₀ (λ k. root_link hours l k) n-end links n
 
-abbrev decreases-loop : tie.decreases-loop
+abbrev decreases-loop : tie.decreases-loop-n
 decreases-loop links₀ l rows hours n₀ n-end links n = n-end - n
 
-abbrev S : tie.In-loop invariant-loop decreases-loop → tie.Start invariant-loop decreases-loop
+abbrev S : tie.In-loop-n invariant-loop decreases-loop → tie.Start invariant-loop decreases-loop
 S c = c.before.before.before.before
 
 -- a turn's row is in use
-in_use : (c : tie.In-loop invariant-loop decreases-loop) → c.before.loop.n < used (S c).args.l.now
-in_use c = omega (arith, c.before.loop.invariant.ended, (S c).requires.1)
+in_use : (c : tie.In-loop-n invariant-loop decreases-loop) → c.loop-n.n < used (S c).args.l.now
+in_use c = omega (arith, c.loop-n.invariant.ended, (S c).requires.1)
 
 -- and its related row is an earlier one
-low : (c : tie.After-word-at invariant-loop decreases-loop) → c.word_at.result ≢ 0 → c.word_at.result - 1 < c.before.before.loop.n
-low c ne = omega (arith, c.word_at.ensures, ne, related_low (relations_at (S c.before).pre.0) c.before.before.loop.n (in_use c.before))
+low : (c : tie.After-word_at-related invariant-loop decreases-loop) → c.word_at-related.result ≢ 0 → c.word_at-related.result - 1 < c.loop-n.n
+low c ne = omega (arith, c.word_at-related.ensures, ne, related_low (relations_at (S c.before).requires.0) c.loop-n.n (in_use c.before))
 
 pub link_roots_spec : {M : Type 1} → statement M
 link_roots_spec =
@@ -45,30 +45,28 @@ link_roots_spec =
     (λ c. let i = c.before.before in omega (arith, in_use i, few (S i).requires.0))
     (λ c. let i = c.before.before in omega (arith, in_use i, few (S i).requires.0))
     (λ c. let i = c.before.before in omega (arith, in_use i, few (S i).requires.0))
-    (λ c. let i = c.before.before in omega (arith, in_use i, i.before.loop.invariant.ended, i.before.loop.invariant.long))
-    (λ c. omega (arith, c.if1.left))
-    (λ c. let i = c.before.before in omega (arith, low c.before c.if1.left, in_use i, few (S i).requires.0))
-    (λ c. let t = c.before.before in let i = t.before in omega (arith, low t c.before.if1.false, in_use i, i.before.loop.invariant.ended, i.before.loop.invariant.long))
+    (λ c. let i = c.before.before in omega (arith, in_use i, i.loop-n.invariant.ended, i.loop-n.invariant.long))
+    (λ c. omega (arith, c.if-related-eq0.false))
+    (λ c. let i = c.before.before in omega (arith, low c.before c.if-related-eq0.false, in_use i, few (S i).requires.0))
+    (λ c. let t = c.before.before in let i = t.before in omega (arith, low t c.if-related-eq0.false, in_use i, i.loop-n.invariant.ended, i.loop-n.invariant.long))
     (λ c. let i = c.before.before.before in omega (arith, in_use i, few (S i).requires.0))
-    (λ c. let i = c.before.before.before in omega (arith, in_use i, i.before.loop.invariant.ended, i.before.loop.invariant.long))
+    (λ c. let i = c.before.before.before in omega (arith, in_use i, i.loop-n.invariant.ended, i.loop-n.invariant.long))
     (λ c. omega arith)
     (λ c. omega arith)
     (λ c.
     let t = c.before in
-    let i = t.before.before in
     let s = S t.before in
-    let rel = relations_at s.pre.0 in
+    let rel = relations_at s.requires.0 in
     ⊎_elim
-    (λ w. filling_by i.loop.invariant (omega arith) (i.loop.n + 1) (sym (root_top rel i.loop.n (sym t.word_at.ensures ∙ w.0.taken))) w.1)
+    (λ w. filling_by t.loop-n.invariant (omega arith) (t.loop-n.n + 1) (sym (root_top rel t.loop-n.n (sym t.word_at-related.ensures ∙ w.if-related-eq0.true))) w.links-is)
     (λ w.
-    filling_by i.loop.invariant (omega arith) (get_or i.loop.links (t.word_at.result - 1) 0)
-    (ap (λ (x : List ℕ). get_or x (t.word_at.result - 1) 0) i.loop.invariant.is
-    ∙ filled_before s.args.links.now (λ k. root_link s.args.hours s.args.l.now k) i.loop.n (t.word_at.result - 1) (low t w.0.left)
-    ∙ ap (λ (k : ℕ). root_link s.args.hours s.args.l.now (k - 1)) t.word_at.ensures
-    ∙ sym (root_up rel i.loop.n (in_use t.before) (λ z. w.0.left (t.word_at.ensures ∙ z))))
-    w.2)
-    c.if1.branch)
-    (λ c. c.before.loop.invariant.long)
+    filling_by t.loop-n.invariant (omega arith) (get_or t.loop-n.links (t.word_at-related.result - 1) 0)
+    (ap (λ (x : List ℕ). get_or x (t.word_at-related.result - 1) 0) t.loop-n.invariant.is
+    ∙ filled_before s.args.links.now (λ k. root_link s.args.hours s.args.l.now k) t.loop-n.n (t.word_at-related.result - 1) (low t w.if-related-eq0.false)
+    ∙ ap (λ (k : ℕ). root_link s.args.hours s.args.l.now (k - 1)) t.word_at-related.ensures
+    ∙ sym (root_up rel t.loop-n.n (in_use t.before) (λ z. w.if-related-eq0.false (t.word_at-related.ensures ∙ z))))
+    w.links-is)
+    c.if-related-eq0.branch-raw)
+    (λ c. c.loop-n.invariant.long)
     (λ c.
-    let s = c.before.before.before.before in
-    filling_done c.before.loop.invariant (omega arith) ∙ ap (λ (k : ℕ). build k (λ n. root_link s.args.hours s.args.l.now n)) s.requires.1))
+    filling_done c.loop-n.invariant (omega arith) ∙ ap (λ (k : ℕ). build k (λ n. root_link c.args.hours c.args.l.now n)) c.requires.1))

@@ -16,12 +16,8 @@ link_rows_spec =
     (λ c κs. search rules)
     (λ c. search rules)
     (λ c.
-    let k = c.before.before in
-    let s = k.before.before.before.before.before in
-    k.link-roots.ensures ∙ ap (λ (t : Bool). build (used s.args.l.now) (λ n. link_of t s.args.hours s.args.l.now n)) (sym k.before.before.if1.true))
+    c.link_roots.ensures ∙ ap (λ (t : Bool). build (used c.args.l.now) (λ n. link_of t c.args.hours c.args.l.now n)) (sym c.if-tree.true))
     (λ c κs. search rules)
     (λ c. search rules)
     (λ c.
-    let k = c.before.before in
-    let s = k.before.before.before.before.before in
-    k.link-draws.ensures ∙ ap (λ (t : Bool). build (used s.args.l.now) (λ n. link_of t s.args.hours s.args.l.now n)) (sym k.before.before.if1.false)))
+    c.link_draws.ensures ∙ ap (λ (t : Bool). build (used c.args.l.now) (λ n. link_of t c.args.hours c.args.l.now n)) (sym c.if-tree.false)))

@@ -17,6 +17,6 @@ stands_spec =
     (tie.spec
     (λ c κs. search rules)
     (λ c.
-    let s = c.before.before.args in
-    ap (λ (x : ℕ). eqb x 13 || eqb x 15) c.word_at.ensures
+    let s = c.args in
+    ap (λ (x : ℕ). eqb x 13 || eqb x 15) c.word_at-status.ensures
     ∙ ap (λ (b : Bool). eqb (status (row s.hours s.l.now s.n)) 13 || b) (sym (or-false _))))

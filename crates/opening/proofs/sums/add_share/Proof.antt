@@ -20,17 +20,13 @@ add_share_spec =
     (tie.spec
     (λ c κs. search rules)
     (λ c. search rules)
-    (λ c. adds_as (λ h lt. hit _ _ _ c.before.before.before.before.if1.true) c.before.before.add-held.ensures)
-    (λ c κs. let p = c.before.before.before.requires in (sized_at p.0, (in_rows p.0 p.1.0, lit< tt)))
+    (λ c. adds_as (λ h lt. hit _ _ _ c.if-tree.true) c.add_held.ensures)
+    (λ c κs. let p = c.requires in (sized_at p.0, (in_rows p.0 p.1.0, lit< tt)))
     (λ c κs. search rules)
     (λ c. search rules)
     (λ c.
-    let t = c.before.before.before.before in
-    let w = t.before in
-    adds_as (λ h lt. skip _ _ _ _ w.before.if1.false (hit _ _ _ (eq-eqb _ _ (sym w.word_at.ensures ∙ t.if2.true)))) c.before.before.add-held2.ensures)
-    (λ c κs. let p = c.before.before.before.before.before.before.requires in (p.0, ((p.1.0, lit< tt), sums_wider (omega arith) p.1.1)))
+    adds_as (λ h lt. skip _ _ _ _ c.if-tree.false (hit _ _ _ (eq-eqb _ _ (sym c.word_at.ensures ∙ c.if-word_at-eq-NONFIRM_REDIRECT.true)))) c.add_held-then-word_at-eq-NONFIRM_REDIRECT.ensures)
+    (λ c κs. let p = c.requires in (p.0, ((p.1.0, lit< tt), sums_wider (omega arith) p.1.1)))
     (λ c. search rules)
     (λ c.
-    let t = c.before.before.before.before in
-    let w = t.before in
-    adds_as (λ h lt. skip _ _ _ _ w.before.if1.false (skip _ _ _ _ (ne_eqb _ _ (λ e. t.if2.false (w.word_at.ensures ∙ e))) refl)) c.before.before.add-hours.ensures))
+    adds_as (λ h lt. skip _ _ _ _ c.if-tree.false (skip _ _ _ _ (ne_eqb _ _ (λ e. c.if-word_at-eq-NONFIRM_REDIRECT.false (c.word_at.ensures ∙ e))) refl)) c.add_hours.ensures))

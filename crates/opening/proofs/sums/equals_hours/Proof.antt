@@ -24,11 +24,9 @@ equals_hours_spec =
     (λ c. search rules)
     (λ c. search rules)
     (λ c. search rules)
-    (λ c. omega (arith, (sized_at c.before.before.before.requires.0).long))
+    (λ c. omega (arith, (sized_at c.requires.0).long))
     (λ c κs. search rules)
     (λ c.
-    let r = c.before.before in
-    let s = r.before.before.before in
-    c.equals-hours.ensures
-    ∙ ap (λ (x : List ℕ). equal s.args.sums.now (hours_of s.args.hours s.args.p 0 (length s.args.sums.now) x)) (row_lent (sized_at s.requires.0) r.row_at.ensures)
-    ∙ hours_compared s.requires.0 s.args.n s.args.p s.requires.1.0.0 s.requires.1.0.1 s.args.sums.now s.requires.1.1))
+    c.equals_hours.ensures
+    ∙ ap (λ (x : List ℕ). equal c.args.sums.now (hours_of c.args.hours c.args.p 0 (length c.args.sums.now) x)) (row_lent (sized_at c.requires.0) c.row_at-at.ensures)
+    ∙ hours_compared c.requires.0 c.args.n c.args.p c.requires.1.0.0 c.requires.1.0.1 c.args.sums.now c.requires.1.1))

@@ -18,17 +18,17 @@ use Rattle.provider.proofs.Laws.{then_rest, at_row}
 use Rattle.provider.proofs.approve.approve_number.Statement.{statement}
 use Rattle.provider.proofs.approve.approve_number.Tie as tie
 
-abbrev S : tie.After-row-named → tie.Start
+abbrev S : tie.After-row_named-n → tie.Start
 S c = c.before.before.before.before.before.before
 
-rest : (c : tie.After-row-named) (v m : ℕ) → v ≡ m → v ≡ (no_reference (S c).args.l.now (S c).args.a gives 4 else not_provider (S c).args.l.now (S c).args.a gives 3 else m)
+rest : (c : tie.After-row_named-n) (v m : ℕ) → v ≡ m → v ≡ (no_reference (S c).args.l.now (S c).args.a gives 4 else not_provider (S c).args.l.now (S c).args.a gives 3 else m)
 rest c v m h =
-    then_rest (S c).args.l.now (S c).args.a v m c.before.before.before.before.no-reference.ensures c.before.before.before.if1.false
-    c.before.before.not-provider.ensures c.before.if2.false h
+    then_rest (S c).args.l.now (S c).args.a v m c.no_reference.ensures c.if-no_reference.false
+    c.not_provider.ensures c.if-not_provider.false h
 
 -- what is said of the row is said of the row that the action names
-own : (c : tie.After-row-named) {b : Bool} (f : List ℕ → Bool) → b ≡ f (row (S c).args.hours (S c).args.l.now c.row_named.result) → b ≡ f (named_row (S c).args.hours (S c).args.l.now (S c).args.a)
-own c f h = at_row (S c).args.hours (S c).args.l.now f c.row_named.ensures.0 h
+own : (c : tie.After-row_named-n) {b : Bool} (f : List ℕ → Bool) → b ≡ f (row (S c).args.hours (S c).args.l.now c.row_named-n.result) → b ≡ f (named_row (S c).args.hours (S c).args.l.now (S c).args.a)
+own c f h = at_row (S c).args.hours (S c).args.l.now f c.row_named-n.ensures.0 h
 
 pub approve_number_spec : {M : Type 1} → statement M
 unfolding approve_number waiting_number
@@ -36,26 +36,24 @@ approve_number_spec =
     tie.close
     (tie.spec
     (λ c κs. search sound_at)
-    (λ c. hit_call _ _ _ _ c.before.no-reference.ensures c.if1.true)
+    (λ c. hit_call _ _ _ _ c.no_reference.ensures c.if-no_reference.true)
     (λ c κs. search sound_at)
-    (λ c. skip_call _ _ _ _ _ c.before.before.before.no-reference.ensures c.before.before.if1.false (hit_call _ _ _ _ c.before.not-provider.ensures c.if2.true))
-    (λ c κs. (c.before.before.before.before.before.requires, sym c.before.before.before.no-reference.ensures ∙ c.before.before.if1.false))
+    (λ c. skip_call _ _ _ _ _ c.no_reference.ensures c.if-no_reference.false (hit_call _ _ _ _ c.not_provider.ensures c.if-not_provider.true))
+    (λ c κs. (c.requires, sym c.no_reference.ensures ∙ c.if-no_reference.false))
     (λ c κs. search rules)
-    (λ c. let t = c.before.before in rest t _ _ (hit_call _ _ _ _ (own t not_approvable c.before.not-approvable.ensures) c.if3.true))
+    (λ c. let t = c.before.before in rest t _ _ (hit_call _ _ _ _ (own t not_approvable c.not_approvable.ensures) c.if-not_approvable.true))
     (λ c κs. search placed)
     (λ c κs. search rules)
     (λ c.
-    let q = c.before.before in
-    let t = q.before.before.before in
+    let t = c.before.before.before.before.before in
     let s = S t in
     rest t _ _
-    (skip_call _ _ _ _ _ (own t not_approvable q.before.before.not-approvable.ensures) q.before.if3.false
-    (hit_by _ _ _ _ (sym (own t (waits_at ACCEPTED) q.waits_at_lem.ensures) ∙ c.before.if4.true)
-    (c.confirm-own-number.ensures
-    ∙ ap (λ (k : ℕ). confirm_number s.args.hours s.args.l.now k (in_force s.args.hours (row s.args.hours s.args.l.now k)) true) t.row_named.ensures.0))))
+    (skip_call _ _ _ _ _ (own t not_approvable c.not_approvable.ensures) c.if-not_approvable.false
+    (hit_by _ _ _ _ (sym (own t (waits_at ACCEPTED) c.waits_at.ensures) ∙ c.if-waits_at.true)
+    (c.confirm_own_number.ensures
+    ∙ ap (λ (k : ℕ). confirm_number s.args.hours s.args.l.now k (in_force s.args.hours (row s.args.hours s.args.l.now k)) true) t.row_named-n.ensures.0))))
     (λ c.
-    let q = c.before in
-    let t = q.before.before.before in
+    let t = c.before.before.before.before in
     rest t _ _
-    (skip_call _ _ _ _ _ (own t not_approvable q.before.before.not-approvable.ensures) q.before.if3.false
-    (skip_call _ _ _ _ _ (own t (waits_at ACCEPTED) q.waits_at_lem.ensures) c.if4.false refl))))
+    (skip_call _ _ _ _ _ (own t not_approvable c.not_approvable.ensures) c.if-not_approvable.false
+    (skip_call _ _ _ _ _ (own t (waits_at ACCEPTED) c.waits_at.ensures) c.if-waits_at.false refl))))

@@ -12,10 +12,8 @@ mark_approved_spec =
     tie.close
     (tie.spec
     (λ c κs. search placed)
-    (λ c κs. (omega arith, omega arith, omega (arith, c.word_at.ensures, (own_words c.before.before.before.requires).flags)))
+    (λ c κs. (omega arith, omega arith, omega (arith, c.word_at-flags.ensures, (own_words c.requires).flags)))
     (λ c κs. search placed)
     (λ c. search rules)
     (λ c.
-    let f = c.before.before.before.before in
-    let s = f.before.before.before.before in
-    c.before.before.set_word.ensures ∙ raised_by s.args.hours s.args.l.now s.args.n f.flag_raised.ensures f.before.word_at.ensures))
+    c.set_word.ensures ∙ raised_by c.args.hours c.args.l.now c.args.n c.flag_raised-raised.ensures c.word_at-flags.ensures))

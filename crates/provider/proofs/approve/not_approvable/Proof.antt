@@ -10,11 +10,11 @@ use Rattle.megawatts.proofs.Laws.{placed}
 use Rattle.provider.proofs.approve.not_approvable.Statement.{statement}
 use Rattle.provider.proofs.approve.not_approvable.Tie as tie
 
-abbrev S : tie.After-is-transfer → tie.Start
+abbrev S : tie.After-is_transfer → tie.Start
 S c = c.before.before.before
 
-said : (c : tie.After-is-transfer) → c.is-transfer.result ≡ transfer (reqtype (row (S c).args.hours (S c).args.l.now (S c).args.n))
-said c = c.is-transfer.ensures ∙ ap transfer c.before.word_at.ensures
+said : (c : tie.After-is_transfer) → c.is_transfer.result ≡ transfer (reqtype (row (S c).args.hours (S c).args.l.now (S c).args.n))
+said c = c.is_transfer.ensures ∙ ap transfer c.word_at-reqtype.ensures
 
 pub not_approvable_spec : {M : Type 1} → statement M
 unfolding not_approvable
@@ -23,11 +23,10 @@ not_approvable_spec =
     (tie.spec
     (λ c κs. search placed)
     (λ c κs. search rules)
-    (λ c. or_stops _ _ (ap not (sym (said c.before)) ∙ c.if1.true))
+    (λ c. or_stops _ _ (ap not (sym (said c.before) ∙ c.if-not-is_transfer.true)))
     (λ c κs. search placed)
-    (λ c. or_goes _ _ _ (ap not (sym (said c.before.before.before)) ∙ c.before.before.if1.false) (or_stops _ _ (ap not (sym c.before.is_open.ensures) ∙ c.if2.true)))
+    (λ c. or_goes _ _ _ (ap not (sym (said c.before.before.before) ∙ c.if-not-is_transfer.false)) (or_stops _ _ (ap not (sym c.is_open.ensures ∙ c.if-not-is_open.true))))
     (λ c κs. search rules)
     (λ c.
-    let o = c.before in
-    or_goes _ _ _ (ap not (sym (said o.before.before.before)) ∙ o.before.before.if1.false)
-    (or_goes _ _ _ (ap not (sym o.before.is_open.ensures) ∙ o.if2.false) c.is-approved.ensures)))
+    or_goes _ _ _ (ap not (sym (said c.before.before.before.before) ∙ c.if-not-is_transfer.false))
+    (or_goes _ _ _ (ap not (sym c.is_open.ensures ∙ c.if-not-is_open.false)) c.is_approved.ensures)))

@@ -13,5 +13,5 @@ bad_time_spec =
     tie.close
     (tie.spec
     (λ c. search rules)
-    (λ c. lt-ltb _ _ c.if1.true ∙ or_stops _ _ (lt-ltb _ _ c.if1.true))
-    (λ c. or_goes _ _ _ (le-ltb _ _ c.before.if1.false) refl))
+    (λ c. lt-ltb _ _ c.if-a-l.true ∙ or_stops _ _ (lt-ltb _ _ c.if-a-l.true))
+    (λ c. or_goes _ _ _ (le-ltb _ _ c.if-a-l.false) refl))

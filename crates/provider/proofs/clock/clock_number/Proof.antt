@@ -12,7 +12,7 @@ clock_number_spec =
     tie.close
     (tie.spec
     (λ c κs. search rules)
-    (λ c. hit_call _ _ _ _ c.before.not-provider.ensures c.if1.true)
+    (λ c. hit_call _ _ _ _ c.not_provider.ensures c.if-not_provider.true)
     (λ c κs. search rules)
-    (λ c. skip_call _ _ _ _ _ c.before.before.before.not-provider.ensures c.before.before.if1.false (hit_call _ _ _ _ c.before.bad-time.ensures c.if2.true))
-    (λ c. skip_call _ _ _ _ _ c.before.before.before.not-provider.ensures c.before.before.if1.false (skip_call _ _ _ _ _ c.before.bad-time.ensures c.if2.false refl)))
+    (λ c. skip_call _ _ _ _ _ c.not_provider.ensures c.if-not_provider.false (hit_call _ _ _ _ c.bad_time.ensures c.if-bad_time.true))
+    (λ c. skip_call _ _ _ _ _ c.not_provider.ensures c.if-not_provider.false (skip_call _ _ _ _ _ c.bad_time.ensures c.if-bad_time.false refl)))

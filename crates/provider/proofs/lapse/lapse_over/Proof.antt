@@ -19,11 +19,11 @@ passed c = lapse_passed c.args.hours c.args.l.now c.args.a c.requires.1
 in_use : (c : tie.Start) → named c.args.a < used c.args.l.now
 in_use c = named_used c.requires.0 c.args.a (passed c).reference
 
-abbrev S : tie.After-waits-at → tie.Start
+abbrev S : tie.After-waits_at → tie.Start
 S c = c.before.before.before
 
-waits : (c : tie.After-waits-at) → c.waits_at_lem.result ≡ waits_at CR_ACCEPTED (named_row (S c).args.hours (S c).args.l.now (S c).args.a)
-waits c = at_row (S c).args.hours (S c).args.l.now (waits_at CR_ACCEPTED) c.before.row_named.ensures.0 c.waits_at_lem.ensures
+waits : (c : tie.After-waits_at) → c.waits_at.result ≡ waits_at CR_ACCEPTED (named_row (S c).args.hours (S c).args.l.now (S c).args.a)
+waits c = at_row (S c).args.hours (S c).args.l.now (waits_at CR_ACCEPTED) c.row_named-n.ensures.0 c.waits_at.ensures
 
 pub lapse_over_spec : {M : Type 1} → statement M
 lapse_over_spec =
@@ -37,9 +37,9 @@ lapse_over_spec =
     (λ c.
     let t = c.before.before in
     let s = S t in
-    c.over-confirming-own.ensures
-    ∙ ap (λ (k : ℕ). over_confirming s.args.hours s.args.l.now k (in_force s.args.hours (row s.args.hours s.args.l.now k))) t.before.row_named.ensures.0
-    ∙ sym (over_lapse_confirms s.pre.0 s.args.a (in_use s) (sym (waits t) ∙ c.before.if1.true)))
+    c.over_confirming_own.ensures
+    ∙ ap (λ (k : ℕ). over_confirming s.args.hours s.args.l.now k (in_force s.args.hours (row s.args.hours s.args.l.now k))) t.row_named-n.ensures.0
+    ∙ sym (over_lapse_confirms s.requires.0 s.args.a (in_use s) (sym (waits t) ∙ c.if-waits_at.true)))
     (λ c.
     let t = c.before in
-    sym (over_lapse_retracts (S t).requires.0 (S t).args.a (in_use (S t)) (sym (waits t) ∙ c.if1.false))))
+    sym (over_lapse_retracts (S t).requires.0 (S t).args.a (in_use (S t)) (sym (waits t) ∙ c.if-waits_at.false))))

@@ -16,7 +16,7 @@ abbrev S : tie.After-lapses → tie.Start
 S c = c.before.before.before
 
 said : (c : tie.After-lapses) → c.lapses.result ≡ (status (row (S c).args.hours (S c).args.l.now (S c).args.n) among (6 ∷ 7 ∷ 10 ∷ 11 ∷ []))
-said c = c.lapses.ensures ∙ ap (λ (s : ℕ). s among (6 ∷ 7 ∷ 10 ∷ 11 ∷ [])) c.before.word_at.ensures
+said c = c.lapses.ensures ∙ ap (λ (s : ℕ). s among (6 ∷ 7 ∷ 10 ∷ 11 ∷ [])) c.word_at-status.ensures
 
 pub not_lapsing_spec : {M : Type 1} → statement M
 unfolding not_lapsing
@@ -25,6 +25,6 @@ not_lapsing_spec =
     (tie.spec
     (λ c κs. search placed)
     (λ c κs. search rules)
-    (λ c. or_stops _ _ (ap not (sym (said c.before)) ∙ c.if1.true))
+    (λ c. or_stops _ _ (ap not (sym (said c.before) ∙ c.if-not-lapses.true)))
     (λ c κs. search placed)
-    (λ c. or_goes _ _ _ (ap not (sym (said c.before.before)) ∙ c.before.if1.false) c.waits_at_lem.ensures))
+    (λ c. or_goes _ _ _ (ap not (sym (said c.before.before) ∙ c.if-not-lapses.false)) c.waits_at.ensures))

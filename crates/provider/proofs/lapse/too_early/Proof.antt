@@ -15,6 +15,6 @@ unfolding too_early
 too_early_spec =
     tie.close
     (tie.spec
-    (λ c. omega (arith, head_placed c.before.before.requires))
+    (λ c. omega (arith, head_placed c.requires))
     (λ c κs. search placed)
-    (λ c. ap (λ (x : ℕ). ltb (clock c.before.before.before.args.l.now) x) c.word_at.ensures))
+    (λ c. ap (λ (x : ℕ). ltb (clock c.args.l.now) x) c.word_at.ensures))

@@ -14,4 +14,4 @@ is_approved_spec =
     (tie.spec
     (λ c κs. search placed)
     (λ c κs. search rules)
-    (λ c. c.has-flag.ensures ∙ ap (λ (x : ℕ). has_flag approved x) c.before.word_at.ensures))
+    (λ c. c.has_flag.ensures ∙ ap (λ (x : ℕ). has_flag approved x) c.word_at.ensures))

@@ -11,5 +11,4 @@ row_named_spec =
     (tie.spec
     (λ c κs. search rules)
     (λ c.
-    let s = c.before.before in
-    (c.named.ensures, placed_at s.requires.0 (omega (arith, c.named.ensures, issued_range s.args.l.now s.args.a s.requires.1)))))
+    (c.named-n.ensures, placed_at c.requires.0 (omega (arith, c.named-n.ensures, issued_range c.args.l.now c.args.a c.requires.1)))))

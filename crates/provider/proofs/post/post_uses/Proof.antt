@@ -15,10 +15,10 @@ use Rattle.checks.proofs.Profiles.{profile_lent}
 use Rattle.provider.proofs.post.post_uses.Statement.{statement}
 use Rattle.provider.proofs.post.post_uses.Tie as tie
 
-abbrev S : tie.After-struct-known3 → tie.Start
+abbrev S : tie.After-struct_known-3-1 → tie.Start
 S c = c.before.before.before.before.before.before
 
-is : (c : tie.After-struct-known3) → take ((S c).args.a.offset + (S c).args.a.length - (S c).args.a.offset) (drop (S c).args.a.offset (S c).args.words.now) ≡ profile (S c).args.words.now (S c).args.a
+is : (c : tie.After-struct_known-3-1) → take ((S c).args.a.offset + (S c).args.a.length - (S c).args.a.offset) (drop (S c).args.a.offset (S c).args.words.now) ≡ profile (S c).args.words.now (S c).args.a
 is c = profile_lent (S c).args.words.now (S c).args.a (S c).requires.1.1.words.fits
 
 pub post_uses_spec : {M : Type 1} → statement M
@@ -37,10 +37,10 @@ post_uses_spec =
     (λ c κs.
     let u = c.before in
     let s = S u in
-    let p = s.pre.1.1 in (
-      s.pre.0,
+    let p = s.requires.1.1 in (
+      s.requires.0,
       (
-        s.pre.1.0,
+        s.requires.1.0,
         (
           record { least = p.path.0; most = p.path.1 },
           (omega (arith, ap length (is u), words_length p.words, p.starts, p.stops), ap (λ (v : List ℕ). within most_megawatts v) (is u) ∙ p.words.most),
@@ -50,5 +50,5 @@ post_uses_spec =
     (λ c.
     let u = c.before.before in
     let s = S u in
-    c.exceeds-posting.ensures
+    c.exceeds_posting.ensures
     ∙ ap (λ (v : List ℕ). over_posted s.args.hours s.args.l.now (splice s.args.postings.now (posting_at s.args.hours s.args.a.path s.args.a.start) v) s.args.a.path) (is u)))

@@ -14,5 +14,4 @@ bad_for_span_spec =
     (λ c κs. search placed)
     (λ c κs. search rules)
     (λ c.
-    let s = c.before.before.before.before in
-    c.bad-profile.ensures ∙ ap (λ (k : ℕ). bad_profile s.args.words.now s.args.a k) c.before.span_hours_lem.ensures))
+    c.bad_profile.ensures ∙ ap (λ (k : ℕ). bad_profile c.args.words.now c.args.a k) c.span_hours-count.ensures))

@@ -17,5 +17,5 @@ not_reducible_spec =
     (tie.spec
     (λ c κs. search placed)
     (λ c κs. search placed)
-    (λ c. c.if1.true ∙ or_stops _ _ (ap not (sym c.before.is-confirmed.ensures) ∙ c.if1.true))
-    (λ c. or_goes _ _ _ (ap not (sym c.before.before.is-confirmed.ensures) ∙ c.before.if1.false) (ap (λ (x : ℕ). eqb x RELINQUISH) c.word_at.ensures)))
+    (λ c. ap not c.if-not-is_confirmed.true ∙ or_stops _ _ (ap not (sym c.is_confirmed.ensures ∙ c.if-not-is_confirmed.true)))
+    (λ c. or_goes _ _ _ (ap not (sym c.is_confirmed.ensures ∙ c.if-not-is_confirmed.false)) (ap (λ (x : ℕ). eqb x RELINQUISH) c.word_at.ensures)))
