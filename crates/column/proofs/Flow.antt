@@ -1,17 +1,17 @@
 -- What a row's children draw on it, and the invariant.
-use mathlib.Core.Path.{◌≡◌, refl, sym, ap, ◌∙◌, subst}
+use mathlib.Core.Path.{◌≡◌, sym, ap, ◌∙◌, subst}
 use mathlib.Core.Logic.{◌≢◌}
-use mathlib.Core.Bool.{Bool, true, false}
-use Prim.Native.Nat.{ℕ, zero, suc, ◌+◌, ◌-◌, ◌≤◌, ◌<◌}
+use mathlib.Core.Bool.{Bool, true}
+use Prim.Native.Nat.{ℕ, suc, ◌+◌, ◌≤◌, ◌<◌}
 use native.Mathlib.Decide.{ℕ_discrete}
 use native.Mathlib.Omega.{arith}
 use lib.Dec.{eqb}
 use lib.IntN.{ℤ, pos, neg_ℤ, ◌+ℤ◌, +ℤ-neg_ℤ_cancel}
-use Rattle.column.specs.Sum.{gate, upd, sum_to}
+use Rattle.column.specs.Sum.{gate, sum_to}
 use Rattle.column.specs.Column.{Col, part, hit, Off}
-use Rattle.column.specs.Step.{Keeps, Still, Submit}
-use Rattle.column.proofs.Sums.{eqb_same, eqb_other, gate_zero, gate_add, upd_same, upd_other, sum_ext, sum_suc, sum_point, sum_two}
-use Rattle.column.proofs.Fits.{Fit, fit_same}
+use Rattle.column.specs.Step.{Keeps, Submit}
+use Rattle.column.proofs.Sums.{eqb_same, eqb_other, gate_zero, gate_add, sum_ext, sum_suc, sum_point, sum_two}
+use Rattle.column.proofs.Fits.{Fit}
 
 -- what a row of type t that refers to r, and draws x, adds to the draws on n, of the types that b selects
 abbrev pub into : (ℕ → Bool) → ℕ → ℕ → ℕ → ℕ → ℕ

@@ -1,12 +1,12 @@
 -- Each step keeps the invariant.
-use mathlib.Core.Path.{◌≡◌, refl, sym, ap, ◌∙◌, subst}
+use mathlib.Core.Path.{◌≡◌, refl, sym, ap, ◌∙◌}
 use mathlib.Core.Logic.{◌≢◌}
-use mathlib.Core.Bool.{Bool, true, false}
-use Prim.Native.Nat.{ℕ, zero, suc, ◌+◌, ◌-◌, ◌≤◌, ◌<◌}
+use mathlib.Core.Bool.{Bool}
+use Prim.Native.Nat.{ℕ, ◌+◌, ◌-◌, ◌<◌}
 use native.Mathlib.Omega.{arith}
-use lib.IntN.{ℤ, pos, neg_ℤ, ◌+ℤ◌}
+use lib.IntN.{pos}
 use Rattle.column.specs.Sum.{upd}
-use Rattle.column.specs.Column.{Col, hit, share, Off}
+use Rattle.column.specs.Column.{Col, share, Off}
 use Rattle.column.specs.Step.{Keeps, Still, OutStays, RedStays, Same, Submit, Quiet, Top, Child, Give, AnnulTop, AnnulChild, Displace, Reduce, Step, same, submit, quiet, top, child, give, annul_top, annul_child, displace, reduce}
 use Rattle.column.proofs.Sums.{upd_same, upd_other}
 use Rattle.column.proofs.Fits.{Fit, fit_same, fit_off, fit_start, fit_start8, fit_take, fit_back, fit_bend, fit_end, fit_move, fit_w_off, fit_w_bent, fit_w_whole}

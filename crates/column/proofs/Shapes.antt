@@ -1,11 +1,11 @@
 -- Each step keeps the shape: references point down, and types stand under the types that they may.
-use mathlib.Core.Path.{◌≡◌, refl, sym, ap, ◌∙◌, subst}
+use mathlib.Core.Path.{◌≡◌, sym, ◌∙◌}
 use mathlib.Core.Logic.{◌≢◌}
-use Prim.Native.Nat.{ℕ, zero, suc, ◌+◌, ◌≤◌, ◌<◌}
+use Prim.Native.Nat.{ℕ, suc, ◌≤◌}
 use native.Mathlib.Decide.{dec_le}
 use native.Mathlib.Omega.{arith}
-use Rattle.column.specs.Column.{Col, Off}
-use Rattle.column.specs.Step.{Keeps, Still, Same, Submit, Quiet, Top, Child, Give, AnnulTop, AnnulChild, Displace, Reduce, Step, same, submit, quiet, top, child, give, annul_top, annul_child, displace, reduce, Fresh}
+use Rattle.column.specs.Column.{Col}
+use Rattle.column.specs.Step.{Keeps, Submit, Step, same, submit, quiet, top, child, give, annul_top, annul_child, displace, reduce, Fresh}
 use Rattle.column.proofs.Flow.{Shape, by_one}
 
 -- the rows and their references stay, and the unused rows' statuses

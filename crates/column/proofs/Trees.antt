@@ -1,15 +1,13 @@
 -- A tree's sum: what the root draws is the sum, over all that descends from it, of what each row keeps for itself.
-use mathlib.Core.Path.{◌≡◌, refl, sym, ap, ◌∙◌, subst}
-use mathlib.Core.Logic.{◌≢◌}
+use mathlib.Core.Path.{◌≡◌, refl, sym, ap, ◌∙◌}
 use mathlib.Core.Bool.{Bool, true, false}
 use Prim.Native.Nat.{ℕ, zero, suc, ◌+◌, ◌≤◌, ◌<◌}
-use native.Mathlib.Decide.{ℕ_discrete}
 use native.Mathlib.Omega.{arith}
 use lib.Dec.{eqb}
 use Rattle.column.specs.Sum.{gate, sum_to}
 use Rattle.column.specs.Column.{hit, either}
 use Rattle.column.specs.Demand.{up, within, inside}
-use Rattle.column.proofs.Sums.{eqb_same, eqb_other, gate_zero, gate_add, gate_swap, sum_ext, sum_add, sum_gate, sum_zero, sum_point, sum_single, sum_swap}
+use Rattle.column.proofs.Sums.{eqb_same, eqb_other, gate_zero, gate_add, sum_ext, sum_add, sum_gate, sum_zero, sum_point, sum_single, sum_swap}
 use Rattle.column.proofs.Flow.{hit_same, hit_other}
 
 -- b holds of o, and of what refers to a row of which it holds

@@ -1,5 +1,5 @@
 -- One hour of a ledger and its tally, as functions of the row: a column.
-use Rattle.std.specs.Prelude.{◌≡◌, ◌≢◌, Bool, true, false, ℕ, zero, suc, ◌+◌, ◌≤◌, ◌<◌, eqb, ℤ, pos, ◌+ℤ◌}
+use Rattle.std.specs.Prelude.{◌≢◌, Bool, true, false, ℕ, suc, ◌≤◌, eqb, ℤ}
 use Rattle.column.specs.Sum.{gate, choose}
 
 pub record Col : Type 0 where

@@ -1,5 +1,5 @@
 -- Demand 3, of a column.
-use Rattle.std.specs.Prelude.{◌≡◌, ◌≢◌, ◌⊎◌, Bool, true, false, ℕ, zero, suc, ◌+◌, ◌≤◌, ◌<◌, eqb, ℤ, pos, negsuc, ◌+ℤ◌}
+use Rattle.std.specs.Prelude.{◌≡◌, ◌≢◌, ◌⊎◌, Bool, true, false, ℕ, zero, suc, ◌+◌, eqb, ℤ, pos, negsuc, ◌+ℤ◌}
 use Rattle.column.specs.Sum.{gate, sum_to}
 use Rattle.column.specs.Column.{Col, either}
 

@@ -1,6 +1,6 @@
 -- What an accepted action does to a column, as facts about the column before (S) and after (S'). B x is what is posted
 -- for path x.
-use Rattle.std.specs.Prelude.{◌≡◌, ◌≢◌, ℕ, zero, suc, ◌+◌, ◌≤◌, ◌<◌, ℤ, pos, neg_ℤ, ◌+ℤ◌}
+use Rattle.std.specs.Prelude.{◌≡◌, ◌≢◌, ℕ, suc, ◌+◌, ◌≤◌, ◌<◌, pos, neg_ℤ, ◌+ℤ◌}
 use Rattle.column.specs.Column.{Col, share, Off}
 use Rattle.column.specs.Use.{use_of, Tested}
 

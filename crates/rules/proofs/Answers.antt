@@ -1,17 +1,16 @@
 -- What is answered, by the kind of the action.
 use mathlib.Core.Path.{◌≡◌, refl, sym, ap, subst, ◌∙◌}
-use mathlib.Core.Logic.{◌≢◌, ◌⊎◌, inl, inr}
-use mathlib.Core.Bool.{Bool, true, false, ◌&&◌, ◌||◌, not}
+use mathlib.Core.Logic.{◌≢◌}
+use mathlib.Core.Bool.{Bool, true, false, ◌||◌}
 use mathlib.Core.List.{List}
-use Prim.Native.Nat.{ℕ, suc, ◌+◌, ◌-◌, ◌≤◌, ◌<◌}
+use Prim.Native.Nat.{ℕ, ◌+◌, ◌-◌, ◌≤◌}
 use native.Mathlib.Omega.{arith}
-use borrow.Author.Tests.{eqb-true, eqb-false, leb-true, eq-eqb, ne_eqb, not-false}
-use lib.Dec.{eqb, leb}
-use Rattle.rules.specs.Pick.{pick, ◌is_from◌to◌}
-use Rattle.rules.specs.Numbers.{entity}
-use Rattle.rules.specs.Layout.{hours, used, row_of, row, status}
+use borrow.Author.Tests.{eq-eqb, ne_eqb}
+use lib.Dec.{eqb}
+use Rattle.rules.specs.Pick.{pick}
+use Rattle.rules.specs.Layout.{used, row_of, row, status}
 use Rattle.rules.specs.Checks.{named, named_row}
-use Rattle.rules.specs.Act.{by_kind, refusal, subject, status_before, acceptance, answered}
+use Rattle.rules.specs.Act.{refusal, subject, status_before, acceptance, answered}
 use Rattle.rules.specs.Tally.{counts}
 use Rattle.rules.specs.declared.Action.{Action}
 use Rattle.rules.specs.declared.Answer.{Answer}

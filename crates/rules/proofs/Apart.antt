@@ -11,7 +11,7 @@ use Rattle.words.specs.Lists.{word_at, sum_below}
 use Rattle.words.proofs.Laws.{sum_cong}
 use Rattle.rules.specs.Pick.{pick}
 use Rattle.rules.specs.Numbers.{available_part, NONFIRM_REDIRECT}
-use Rattle.rules.specs.Layout.{rows, used, row, reqtype, path, related_row, hour_at}
+use Rattle.rules.specs.Layout.{used, row, reqtype, path, related_row, hour_at}
 use Rattle.rules.specs.Sound.{original}
 use Rattle.rules.specs.Moves.{is_confirmed}
 use Rattle.rules.specs.Paths.{holds_on, counts_on, use_of}

@@ -6,12 +6,12 @@ use mathlib.Core.List.{List, []}
 use Prim.Native.Nat.{ℕ, zero, suc, ◌+◌, ◌-◌, ◌≤◌, ◌<◌}
 use native.Mathlib.Decide.{ℕ_discrete}
 use native.Mathlib.Omega.{arith}
-use borrow.Author.Tests.{eq-eqb, ne_eqb, eqb-true}
+use borrow.Author.Tests.{eq-eqb, ne_eqb}
 use lib.Dec.{eqb, lit<}
 use lib.IntN.{ℤ, pos, negsuc, ◌+ℤ◌}
 use lib.ListN.{length, get_or}
 use Rattle.words.proofs.Laws.{lt_or_le, part_length, part_at}
-use Rattle.column.specs.Column.{Col, either}
+use Rattle.column.specs.Column.{either}
 use Rattle.column.specs.Demand as Column
 use Rattle.column.specs.Demand.{Live, up, within, inside, gateℤ, sumℤ}
 use Rattle.column.proofs.Final.{demand3_of}
@@ -20,7 +20,7 @@ use Rattle.rules.specs.Numbers.{profiles, granted_part, available_part, displace
 use Rattle.rules.specs.Layout.{hours, used, row_size, row, reqtype, status, related, start, stop, has, granted, hour_at, hours_of, span, standing}
 use Rattle.rules.specs.Sound.{original}
 use Rattle.rules.specs.Tally.{Tally, granted_in, resold_sum, redirected_sum, transferred_sum, relinquished_sum, reduced_sum}
-use Rattle.rules.specs.Balance.{row_in, word_in, NotNegative, live, descends_within, descends, sum_to, tallied, stored, holding, SameEntry, Whole, Five, Tree, Balanced}
+use Rattle.rules.specs.Balance.{row_in, NotNegative, live, descends_within, descends, sum_to, tallied, stored, holding, SameEntry, Whole, Five, Tree, Balanced}
 use Rattle.rules.proofs.Types.{original_range}
 use Rattle.rules.proofs.Rows.{row_length}
 use Rattle.rules.proofs.Seen.{hour_in, standing_in, standing_off}

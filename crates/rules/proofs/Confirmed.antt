@@ -1,19 +1,18 @@
 -- Confirming keeps what is kept: the four callers write in their row first, or not at all.
-use mathlib.Core.Path.{◌≡◌, refl, sym, ap, subst, ◌∙◌}
-use mathlib.Core.Logic.{◌≢◌, ◌⊎◌, ⊎_elim, inl, inr}
-use mathlib.Core.Bool.{Bool, true, false}
-use mathlib.Core.List.{List, []}
-use Prim.Native.Nat.{ℕ, suc, ◌+◌, ◌-◌, ◌≤◌, ◌<◌}
+use mathlib.Core.Path.{◌≡◌, sym, ap, subst, ◌∙◌}
+use mathlib.Core.Logic.{◌≢◌, ◌⊎◌}
+use mathlib.Core.Bool.{true, false}
+use mathlib.Core.List.{List}
+use Prim.Native.Nat.{ℕ, suc, ◌≤◌, ◌<◌}
 use native.Mathlib.Omega.{arith}
 use lib.Dec.{eqb, lit<}
 use lib.ListN.{length, get_or}
-use lib.IntN.{ℤ, pos, neg_ℤ, ◌+ℤ◌}
-use Rattle.column.specs.Column.{share, Off}
+use Rattle.column.specs.Column.{Off}
 use Rattle.column.specs.Use.{Tested, use_of}
 use Rattle.column.specs.Step.{Step}
 use Rattle.rules.specs.Pick.{pick}
-use Rattle.rules.specs.Numbers.{granted_part, granted_given, CONFIRMED, RELINQUISH, NONFIRM_REDIRECT}
-use Rattle.rules.specs.Layout.{rows, hours, used, row_of, row, reqtype, status, related, path, start, stop, related_row, has, span_hours, hour_at, granted, span, standing}
+use Rattle.rules.specs.Numbers.{granted_part, CONFIRMED, RELINQUISH, NONFIRM_REDIRECT}
+use Rattle.rules.specs.Layout.{rows, hours, used, row, reqtype, status, related, path, start, stop, related_row, span_hours, hour_at}
 use Rattle.rules.specs.Confirming.{held, emptied, confirm, unconfirmed, short}
 use Rattle.rules.specs.Tally.{Entry, Tally, granted_in, changed, counts, feed}
 use Rattle.rules.specs.declared.Action.{Action}
@@ -21,10 +20,9 @@ use Rattle.rules.specs.declared.Answer.{Answer}
 use Rattle.rules.proofs.SoundFacts.{SoundWords, SoundRelation}
 use Rattle.rules.proofs.Rows.{row_length}
 use Rattle.rules.proofs.Formed.{Formed}
-use Rattle.rules.proofs.Leaves.{Kin, Leaves}
+use Rattle.rules.proofs.Leaves.{Leaves}
 use Rattle.rules.proofs.View.{view, view_of, out_of, red_of}
-use Rattle.rules.proofs.Seen.{standing_off}
-use Rattle.rules.proofs.Spans.{Spanned, hour_standing}
+use Rattle.rules.proofs.Spans.{Spanned}
 use Rattle.rules.proofs.Effects.{confirm_leaves, leaves_trans}
 use Rattle.rules.proofs.Placed.{Placed, placed_in}
 use Rattle.rules.proofs.Steps.{Tallied, confirm_at}
@@ -32,7 +30,6 @@ use Rattle.rules.proofs.TallyLaws.{Like, entry_after, fed_own, fed_other, fed_re
 use Rattle.rules.proofs.Good.{Agrees, Ordered, Good}
 use Rattle.rules.proofs.Entries.{agrees_like, agrees_granted, words_spanned}
 use Rattle.rules.proofs.Keeping.{ordered, stepped, good_leaves}
-use Rattle.words.proofs.Laws.{lt_or_le}
 
 -- a ledger before the confirmation: l with its row n written, or l itself
 pub record Ready (B : ℕ → ℕ → ℕ) (l l1 : List ℕ) (t : Tally) (n : ℕ) (r1 : List ℕ) : Type 0 where

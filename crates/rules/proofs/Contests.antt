@@ -4,7 +4,7 @@ use mathlib.Core.List.{List, [], ◌∷◌}
 use Prim.Native.Nat.{ℕ}
 use lib.ListN.{set}
 use Rattle.rules.specs.Rules.{rules}
-use Rattle.rules.specs.Layout.{row, status, available, displaced}
+use Rattle.rules.specs.Layout.{row, available, displaced}
 use Rattle.rules.specs.Create.{fresh}
 use Rattle.rules.specs.Paths.{unposted}
 use Rattle.rules.specs.Contest.{contested}

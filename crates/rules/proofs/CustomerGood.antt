@@ -1,17 +1,15 @@
 -- The customer's moves keep what is kept.
-use mathlib.Core.Path.{◌≡◌, refl, sym, ap, subst, ◌∙◌}
+use mathlib.Core.Path.{◌≡◌, refl, sym, ap, ◌∙◌}
 use mathlib.Core.Logic.{◌≢◌, ◌⊎◌, ⊎_elim, inl, inr}
-use mathlib.Core.Bool.{Bool, true, false, ◌||◌}
+use mathlib.Core.Bool.{Bool, true, false}
 use mathlib.Core.List.{List, [], ◌∷◌}
-use Prim.Native.Nat.{ℕ, suc, ◌+◌, ◌-◌, ◌≤◌, ◌<◌}
+use Prim.Native.Nat.{ℕ, ◌<◌}
 use native.Mathlib.Omega.{arith}
-use borrow.Author.Tests.{eqb-true, eqb-false}
-use lib.Dec.{eqb, lit<}
-use lib.ListN.{length, get_or, set}
-use Rattle.column.specs.Column.{Off}
+use borrow.Author.Tests.{eqb-false}
+use lib.ListN.{length}
 use Rattle.rules.specs.Pick.{pick, ◌among◌}
 use Rattle.rules.specs.Numbers.{approved, CONFIRMED}
-use Rattle.rules.specs.Layout.{rows, hours, used, row, on_row, status, start, span_hours, has, set_status}
+use Rattle.rules.specs.Layout.{hours, used, row, on_row, status, start, span_hours, has, set_status}
 use Rattle.rules.specs.Megawatts.{in_force}
 use Rattle.rules.specs.Confirming.{confirm}
 use Rattle.rules.specs.Checks.{named, named_row, comes, profile}
@@ -20,20 +18,18 @@ use Rattle.rules.specs.Tally.{Tally, feed}
 use Rattle.rules.specs.declared.Action.{Action}
 use Rattle.rules.specs.declared.Answer.{Answer}
 use Rattle.rules.proofs.Formed.{Formed, formed}
-use Rattle.rules.proofs.Leaves.{Leaves}
-use Rattle.rules.proofs.View.{view, out_of, red_of}
-use Rattle.rules.proofs.Effects.{own_leaves, leaves_trans}
+use Rattle.rules.proofs.View.{out_of, red_of}
+use Rattle.rules.proofs.Effects.{own_leaves}
 use Rattle.rules.proofs.Passed.{CustomerPassed, BidPassed, confirm_passed, CustomerMove, customer_move, profile_length, is_one, last_one}
-use Rattle.rules.proofs.Placed.{placed, placed_in}
-use Rattle.rules.proofs.Quiet.{status_step, calm_step, status_calm, bidden_calm}
+use Rattle.rules.proofs.Placed.{placed}
+use Rattle.rules.proofs.Quiet.{status_step, bidden_calm}
 use Rattle.rules.proofs.Unmoved.{unmoved_bidden}
 use Rattle.rules.proofs.Before.{unconfirmed_stays, short_stays}
 use Rattle.rules.proofs.Kept.{Same, same_self, same_status, same_bidden, fitting_profile}
 use Rattle.rules.proofs.TallyLaws.{fed_red, fed_quiet}
 use Rattle.rules.proofs.Forces.{force_length}
 use Rattle.rules.proofs.Entries.{bid_unsettled, status_agrees, bidden_start, bidden_agrees, bidden_confirms}
-use Rattle.rules.proofs.Good.{Agrees, Good}
-use Rattle.rules.proofs.Keeping.{stepped}
+use Rattle.rules.proofs.Good.{Good}
 use Rattle.rules.proofs.Tests.{Left}
 use Rattle.rules.proofs.Answers.{AnswerOf, answer_counts}
 use Rattle.rules.proofs.Confirmed.{Ready}

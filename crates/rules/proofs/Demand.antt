@@ -9,7 +9,6 @@ use borrow.Author.Tests.{eqb-true, eq-eqb}
 use lib.Dec.{eqb}
 use Rattle.rules.specs.Pick.{pick}
 use Rattle.rules.specs.Layout.{hours}
-use Rattle.rules.specs.Sound.{sound}
 use Rattle.rules.specs.Paths.{sound_postings, posted_in, unposted, over_posted}
 use Rattle.rules.specs.Post.{posted}
 use Rattle.rules.specs.Calls.{Run, Call, run_calls}

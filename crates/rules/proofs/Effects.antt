@@ -14,7 +14,7 @@ use Rattle.words.specs.Lists.{splice, zip2}
 use Rattle.words.proofs.Laws.{lt_or_le, zip_length, part_length, splice_length, splice_before}
 use Rattle.rules.specs.Pick.{pick}
 use Rattle.rules.specs.Numbers.{head_words, row_words, profiles, requested_part, granted_part, available_part, displaced_part, reduced_part, RELINQUISH}
-use Rattle.rules.specs.Layout.{rows, hours, used, set_used, row_size, row, on_row, reqtype, start, stop, related_row, hour_at, hours_of, span_hours, span, granted, available, set_hours, add_hours, less_hours, Sized}
+use Rattle.rules.specs.Layout.{rows, hours, used, set_used, row_size, row, on_row, reqtype, start, stop, related_row, hour_at, hours_of, span_hours, granted, available, set_hours, add_hours, less_hours, Sized}
 use Rattle.rules.specs.Sound.{original}
 use Rattle.rules.specs.Moves.{is_confirmed}
 use Rattle.rules.specs.Megawatts.{grant, take_from, returns_to, give_back, displaced_row, displace, annulled_row, annul, reduced_row, reduce}

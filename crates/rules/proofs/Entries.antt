@@ -12,7 +12,7 @@ use Rattle.words.specs.Lists.{zeros, equal, every, splice}
 use Rattle.words.proofs.Laws.{lt_or_le, equal_lists, splice_length, splice_in, splice_after, and_left, and_right}
 use Rattle.rules.specs.Pick.{pick, ◌among◌}
 use Rattle.rules.specs.Numbers.{requested_part, granted_part, approved, granted_given, ACCEPTED, CONFIRMED, DISPLACED, ANNULLED, QUEUED}
-use Rattle.rules.specs.Layout.{row, row_size, reqtype, status, related, start, stop, flags, span_hours, hour_at, requested, granted, has_flag, has, raise, set_status, offer, standing}
+use Rattle.rules.specs.Layout.{row_size, reqtype, status, related, start, stop, span_hours, hour_at, requested, granted, has_flag, has, raise, set_status, offer, standing}
 use Rattle.rules.specs.Moves.{seller_may}
 use Rattle.rules.specs.Megawatts.{in_force, displaced_row, annulled_row, reduced_row}
 use Rattle.rules.specs.Confirming.{held, emptied}
@@ -29,7 +29,7 @@ use Rattle.rules.proofs.SoundFacts.{SoundWords}
 use Rattle.rules.proofs.Good.{Agrees}
 use Rattle.rules.proofs.Passed.{ProfilePassed, profile_length, SubmitPassed, is_one, last_one, or_none, or_some, seller_move}
 use Rattle.rules.proofs.TallyLaws.{Like}
-use Rattle.rules.proofs.Spans.{Spanned, span_length, span_kin, hour_standing}
+use Rattle.rules.proofs.Spans.{Spanned, span_kin, hour_standing}
 use Rattle.rules.proofs.Forces.{force_length, granted_comes, granted_stays, granted_length, accepted_grants}
 use Rattle.rules.proofs.Shown.{Shown, shown_aside, shown_status, shown_approved, shown_requested, shown_held, shown_emptied, shown_reduced, shown_displaced, shown_annulled, shown_bidden, shown_rebidden, shown_offered, shown_granted}
 

@@ -3,12 +3,12 @@
 use mathlib.Core.Path.{◌≡◌}
 use mathlib.Core.Logic.{◌⊎◌}
 use mathlib.Core.List.{List}
-use Prim.Native.Nat.{ℕ, ◌+◌, ◌≤◌, ◌<◌}
+use Prim.Native.Nat.{ℕ, ◌≤◌, ◌<◌}
 use native.Mathlib.Omega.{arith}
 use lib.ListN.{get_or}
 use Rattle.rules.specs.Numbers.{profiles, most_megawatts, available_part}
 use Rattle.rules.specs.Layout.{rows, hours, used, row, start, stop, hour_at, Sized}
-use Rattle.rules.proofs.SoundFacts.{SoundHead, SoundWords, SoundHours, SoundRelation, SoundLedger}
+use Rattle.rules.proofs.SoundFacts.{SoundHead, SoundWords, SoundRelation, SoundLedger}
 
 pub record FormedHours (H : ℕ) (r : List ℕ) : Type 0 where
   pub most : (p h : ℕ) → p < available_part → h < H → get_or r (hour_at H p h) 0 ≤ most_megawatts

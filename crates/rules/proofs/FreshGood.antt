@@ -1,27 +1,25 @@
 -- A fresh ledger and an empty tally.
 use mathlib.Core.Path.{◌≡◌, refl, sym, ap, subst, ◌∙◌}
-use mathlib.Core.Logic.{◌⊎◌}
 use mathlib.Core.Bool.{Bool, true, false, ◌&&◌}
 use mathlib.Core.List.{List}
-use Prim.Native.Nat.{ℕ, suc, ◌+◌, ◌*◌, ◌≤◌, ◌<◌}
+use Prim.Native.Nat.{ℕ, ◌*◌, ◌≤◌}
 use native.Mathlib.Omega.{arith}
 use borrow.Author.Tests.{leb-true}
 use lib.Dec.{leb, ltb}
-use lib.ListN.{length, get_or}
-use lib.IntN.{ℤ, pos}
-use Rattle.words.specs.Lists.{noughts}
+use lib.ListN.{get_or}
+use lib.IntN.{pos}
 use Rattle.words.proofs.Laws.{and_left, and_right, noughts_length}
 use Rattle.column.specs.Step.{Fresh}
 use Rattle.column.proofs.Shapes.{fresh_shape}
 use Rattle.column.proofs.Uses.{fresh_within}
 use Rattle.column.proofs.Final.{fresh_inv}
 use Rattle.rules.specs.Pick.{pick}
-use Rattle.rules.specs.Numbers.{most_rows, most_hours, most_entity, most_window, end_hour, entity}
-use Rattle.rules.specs.Layout.{rows, hours, used, row_size, row_base, row}
+use Rattle.rules.specs.Numbers.{most_rows, most_hours, most_entity, most_window, entity}
+use Rattle.rules.specs.Layout.{hours, used, row_size, row_base, row}
 use Rattle.rules.specs.Create.{good_numbers, fresh}
-use Rattle.rules.specs.Tally.{Tally, reduced_sum, no_entry, no_entries}
+use Rattle.rules.specs.Tally.{reduced_sum, no_entry, no_entries}
 use Rattle.rules.proofs.SoundFacts.{SoundHead, SoundLedger}
-use Rattle.rules.proofs.View.{view, view_of, out_of, red_of}
+use Rattle.rules.proofs.View.{view_of}
 use Rattle.rules.proofs.Begins.{fresh_row, fresh_column}
 use Rattle.rules.proofs.Good.{Ordered, Good}
 

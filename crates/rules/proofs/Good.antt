@@ -1,15 +1,15 @@
 -- What every list of calls from a fresh ledger keeps, of the ledger and the tally.
 use mathlib.Core.Path.{◌≡◌}
 use mathlib.Core.Logic.{◌⊎◌}
-use mathlib.Core.Bool.{Bool, true, false}
+use mathlib.Core.Bool.{true, false}
 use mathlib.Core.List.{List, []}
-use Prim.Native.Nat.{ℕ, suc, ◌≤◌, ◌<◌}
+use Prim.Native.Nat.{ℕ, suc, ◌<◌}
 use lib.ListN.{get_or}
 use Rattle.words.specs.Lists.{zeros}
 use Rattle.column.specs.Column.{Col}
 use Rattle.column.specs.Use.{Within}
 use Rattle.column.proofs.Flow.{Inv, Shape}
-use Rattle.rules.specs.Pick.{pick, ◌among◌}
+use Rattle.rules.specs.Pick.{pick}
 use Rattle.rules.specs.Numbers.{granted_part, granted_given}
 use Rattle.rules.specs.Layout.{hours, used, row, reqtype, status, related, start, has, requested, granted, hour_at}
 use Rattle.rules.specs.Tally.{Entry, Tally}

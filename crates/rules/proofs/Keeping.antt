@@ -1,8 +1,8 @@
 -- How an accepted action keeps what is kept: one row is its own, the others are kin, and each hour's column goes by steps.
-use mathlib.Core.Path.{◌≡◌, refl, sym, ap, subst, ◌∙◌}
+use mathlib.Core.Path.{◌≡◌, sym, subst, ◌∙◌}
 use mathlib.Core.Logic.{◌≢◌, ◌⊎◌, ⊎_elim, inl, inr}
 use mathlib.Core.List.{List}
-use Prim.Native.Nat.{ℕ, zero, suc, ◌≤◌, ◌<◌}
+use Prim.Native.Nat.{ℕ, suc, ◌≤◌, ◌<◌}
 use native.Mathlib.Decide.{ℕ_discrete}
 use native.Mathlib.Omega.{arith}
 use lib.Dec.{lit<}
@@ -24,7 +24,7 @@ use Rattle.rules.proofs.Formed.{Formed}
 use Rattle.rules.proofs.View.{view_of}
 use Rattle.rules.proofs.Bounded.{any_of}
 use Rattle.rules.proofs.Soundness.{bounded_sound}
-use Rattle.rules.proofs.Leaves.{Kin, Leaves}
+use Rattle.rules.proofs.Leaves.{Leaves}
 use Rattle.rules.proofs.Good.{Agrees, Ordered, GoodAt, Good}
 use Rattle.rules.proofs.TallyLaws.{Like}
 use Rattle.rules.proofs.Entries.{agrees_kin, agrees_like, words_spanned}

@@ -15,7 +15,7 @@ use Rattle.words.specs.Lists.{zip2, noughts, within}
 use Rattle.words.proofs.Laws.{lt_or_le, part_at, within_at, within_all, noughts_length, noughts_at}
 use Rattle.rules.specs.Pick.{pick}
 use Rattle.rules.specs.Numbers.{head_words, row_words, profiles, most_status, most_flags, most_price, most_megawatts, end_second, end_limit, approved, granted_given, offer_given, countered, requested_part, granted_part, available_part, displaced_part, reduced_part, RELINQUISH}
-use Rattle.rules.specs.Layout.{rows, hours, used, row_base, row_size, row, on_row, reqtype, status, related, start, stop, flags, bid, offer, limit, related_row, has_flag, flagged, hour_at, hours_of, span_hours, span, requested, granted, available, has, raise, set_status, set_bid, set_offer, set_limit, set_hours, add_hours, less_hours, clear_hours, Sized}
+use Rattle.rules.specs.Layout.{rows, hours, used, row_base, row_size, row, on_row, reqtype, related, start, stop, flags, related_row, has_flag, flagged, hour_at, hours_of, span_hours, span, requested, granted, available, has, raise, set_status, set_bid, set_offer, set_limit, set_hours, add_hours, less_hours, clear_hours, Sized}
 use Rattle.rules.specs.Megawatts.{in_force, grant, take_from, displaced_row, displace, annulled_row, annul, reduced_row, reduce}
 use Rattle.rules.specs.Confirming.{held, emptied, confirm}
 use Rattle.rules.specs.Checks.{profile, comes}

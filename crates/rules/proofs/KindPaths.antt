@@ -15,7 +15,7 @@ use Rattle.rules.specs.Numbers.{most_status, approved, ACCEPTED, CR_ACCEPTED, CO
 use Rattle.rules.specs.Layout.{rows, hours, window, clock, used, row_of, row, on_row, status, start, span_hours, has, raise, set_status}
 use Rattle.rules.specs.Moves.{confirmed_or_annulled}
 use Rattle.rules.specs.Megawatts.{in_force, displace, annul, reduce}
-use Rattle.rules.specs.Confirming.{confirm, confirm_number, unconfirmed, short}
+use Rattle.rules.specs.Confirming.{confirm, confirm_number}
 use Rattle.rules.specs.Checks.{named, named_row, profile, comes, waits_at}
 use Rattle.rules.specs.SellerStatus.{offers, granted_after, goes_on, annuls_confirmed, offered, offer_after, other_after, seller_after}
 use Rattle.rules.specs.CustomerStatus.{bids, confirms, bidden, bid_after, customer_after}

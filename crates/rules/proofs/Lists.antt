@@ -4,7 +4,7 @@ use mathlib.Core.Bool.{Bool, true, false}
 use mathlib.Core.List.{List, [], ◌∷◌, ◌++◌, append_assoc, append-nil}
 use Prim.Native.Nat.{ℕ}
 use Rattle.rules.specs.Pick.{pick}
-use Rattle.rules.specs.Act.{Outcome, outcome}
+use Rattle.rules.specs.Act.{outcome}
 use Rattle.rules.specs.Contest.{displacing, loses}
 use Rattle.rules.specs.Calls.{Done, Run, Call, one, together, contest, doing, run_actions, too_few, together_run, contest_run, run_call, joined, run_calls, settled_call, settled_calls, actions_alone}
 use Rattle.rules.specs.FirstRefusal.{SettledAlike}

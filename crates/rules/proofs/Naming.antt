@@ -1,33 +1,32 @@
 -- An accepted action that names its row: what its kind's proof starts from.
-use mathlib.Core.Path.{◌≡◌, refl, sym, ap, subst, ◌∙◌}
-use mathlib.Core.Logic.{◌≢◌, ◌⊎◌, inl, inr}
+use mathlib.Core.Path.{◌≡◌, sym, ap, subst, ◌∙◌}
+use mathlib.Core.Logic.{◌≢◌, inl}
 use mathlib.Core.Bool.{Bool, true, false}
 use mathlib.Core.List.{List}
-use Prim.Native.Nat.{ℕ, suc, ◌+◌, ◌-◌, ◌≤◌, ◌<◌}
+use Prim.Native.Nat.{ℕ, suc, ◌≤◌, ◌<◌}
 use native.Mathlib.Omega.{arith}
 use lib.Dec.{eqb, lit<}
-use lib.ListN.{length, get_or, set, length-set}
+use lib.ListN.{length, set, length-set}
 use lib.Seq.{get_or-set_same}
 use Rattle.column.specs.Column.{Off}
 use Rattle.column.specs.Step.{Step}
 use Rattle.rules.specs.Pick.{pick}
 use Rattle.rules.specs.Numbers.{available_part, CONFIRMED, RELINQUISH}
 use Rattle.rules.specs.Layout.{rows, hours, used, row_size, row, on_row, reqtype, status, start, span_hours, set_status, set_hours, clear_hours}
-use Rattle.rules.specs.Megawatts.{grant, in_force}
-use Rattle.rules.specs.Confirming.{held, emptied, confirm, confirm_number, unconfirmed, short}
+use Rattle.rules.specs.Megawatts.{grant}
+use Rattle.rules.specs.Confirming.{held, emptied, confirm, unconfirmed, short}
 use Rattle.rules.specs.Checks.{named, named_row}
 use Rattle.rules.specs.Tally.{Entry, Tally, feed}
 use Rattle.rules.specs.declared.Action.{Action}
 use Rattle.rules.specs.declared.Answer.{Answer}
 use Rattle.rules.proofs.Rows.{row_length}
 use Rattle.rules.proofs.Seen.{Room}
-use Rattle.rules.proofs.SoundFacts.{SoundWords, sized}
-use Rattle.rules.proofs.Formed.{Formed, formed}
+use Rattle.rules.proofs.SoundFacts.{sized}
+use Rattle.rules.proofs.Formed.{Formed}
 use Rattle.rules.proofs.Leaves.{Leaves}
 use Rattle.rules.proofs.View.{view, view_of, out_of, red_of}
 use Rattle.rules.proofs.Spans.{Spanned}
 use Rattle.rules.proofs.Effects.{held_length, emptied_length, confirm_leaves, own_leaves, leaves_trans}
-use Rattle.rules.proofs.Passed.{ConfirmPassed, confirm_passed}
 use Rattle.rules.proofs.Placed.{placed_in, own_long}
 use Rattle.rules.proofs.Quiet.{calm_step, status_calm}
 use Rattle.rules.proofs.Keeping.{stepped}

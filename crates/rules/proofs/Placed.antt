@@ -10,8 +10,7 @@ use Rattle.words.specs.Lists.{equal}
 use Rattle.words.proofs.Laws.{lt_or_le, equal_at}
 use Rattle.rules.specs.Pick.{pick}
 use Rattle.rules.specs.Numbers.{profiles, RELINQUISH}
-use Rattle.rules.specs.Layout.{rows, hours, used, row, row_size, reqtype, related, start, stop, related_row, span_hours, has, span, standing, Sized}
-use Rattle.rules.specs.Checks.{profile}
+use Rattle.rules.specs.Layout.{rows, hours, used, row, row_size, reqtype, related, start, stop, related_row, span_hours, span, standing, Sized}
 use Rattle.rules.proofs.Rows.{row_length}
 use Rattle.rules.proofs.Seen.{Room, standing_in, standing_off}
 use Rattle.rules.proofs.Spans.{Spanned, span_at, span_length as long}

@@ -1,22 +1,21 @@
 -- The provider's actions keep what is kept: approve, reduce, lapse, clock.
 use mathlib.Core.Path.{◌≡◌, refl, sym, ap, subst, ◌∙◌}
-use mathlib.Core.Logic.{◌≢◌, ◌⊎◌, ⊎_elim, inl, inr}
+use mathlib.Core.Logic.{◌≢◌, ⊎_elim, inl, inr}
 use mathlib.Core.Bool.{Bool, true, false, ◌||◌}
 use mathlib.Core.List.{List}
-use Prim.Native.Nat.{ℕ, suc, ◌+◌, ◌-◌, ◌≤◌, ◌<◌}
+use Prim.Native.Nat.{ℕ, suc, ◌<◌}
 use native.Mathlib.Omega.{arith}
 use borrow.Author.Tests.{eq-eqb}
 use lib.Dec.{eqb, lit<}
-use lib.ListN.{length, get_or, set}
+use lib.ListN.{length}
 use lib.Seq.{get_or-set_other}
-use lib.IntN.{ℤ, pos, ◌+ℤ◌}
+use lib.IntN.{pos, ◌+ℤ◌}
 use Rattle.column.specs.Column.{Off}
-use Rattle.column.specs.Step.{OutStays, RedStays}
 use Rattle.rules.specs.Pick.{pick, when}
 use Rattle.rules.specs.Numbers.{approved, ACCEPTED, CR_ACCEPTED, CONFIRMED, RETRACTED}
-use Rattle.rules.specs.Layout.{rows, hours, used, row, on_row, reqtype, status, start, span_hours, has, raise, set_status, set_clock, span, available, standing}
+use Rattle.rules.specs.Layout.{hours, used, row, on_row, status, start, span_hours, has, raise, set_status, set_clock, standing}
 use Rattle.rules.specs.Megawatts.{in_force}
-use Rattle.rules.specs.Confirming.{confirm, confirm_number, unconfirmed, short}
+use Rattle.rules.specs.Confirming.{confirm}
 use Rattle.rules.specs.Checks.{named, named_row, profile, waits_at}
 use Rattle.rules.specs.Approve.{approve_after}
 use Rattle.rules.specs.Reduce.{reduce_after}
@@ -30,7 +29,7 @@ use Rattle.rules.proofs.Rows.{head_row}
 use Rattle.rules.proofs.Formed.{Formed, formed}
 use Rattle.rules.proofs.View.{view, view_of, out_of, red_of}
 use Rattle.rules.proofs.Effects.{own_leaves, reduce_leaves, confirm_leaves, kin_reduced, inside_own}
-use Rattle.rules.proofs.Passed.{ApprovePassed, ReducePassed, LapsePassed, ConfirmPassed, confirm_passed, profile_length, waits_at_lem, open_off, lapsing_off}
+use Rattle.rules.proofs.Passed.{ApprovePassed, ReducePassed, LapsePassed, confirm_passed, profile_length, open_off, lapsing_off}
 use Rattle.rules.proofs.Placed.{placed}
 use Rattle.rules.proofs.Others.{reduce_step}
 use Rattle.rules.proofs.Quiet.{status_step, approved_step, approved_calm}
@@ -38,7 +37,7 @@ use Rattle.rules.proofs.Begins.{clock_step}
 use Rattle.rules.proofs.Unmoved.{unmoved_raise}
 use Rattle.rules.proofs.Before.{unconfirmed_stays, short_stays}
 use Rattle.rules.proofs.Kept.{same_self, same_approved, same_status}
-use Rattle.rules.proofs.TallyLaws.{entry_after, feed_none, fed_red, fed_quiet, fed_reduced, fed_unreduced, fed_reduced_out}
+use Rattle.rules.proofs.TallyLaws.{feed_none, fed_red, fed_quiet, fed_reduced, fed_unreduced, fed_reduced_out}
 use Rattle.rules.proofs.Forces.{force_length}
 use Rattle.rules.proofs.Entries.{status_agrees, approved_agrees, reduced_agrees, lapsed_agrees, approved_start, approved_confirms}
 use Rattle.rules.proofs.Good.{Agrees, Ordered, GoodAt, Good}

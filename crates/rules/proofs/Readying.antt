@@ -1,17 +1,13 @@
 -- The ledger before a confirmation: with its row written, or as it was.
-use mathlib.Core.Path.{◌≡◌, refl, sym, ap, subst, ◌∙◌}
+use mathlib.Core.Path.{refl, sym, subst}
 use mathlib.Core.List.{List}
-use Prim.Native.Nat.{ℕ, ◌≤◌, ◌<◌}
-use native.Mathlib.Omega.{arith}
-use lib.ListN.{length}
+use Prim.Native.Nat.{ℕ, ◌<◌}
 use Rattle.column.specs.Column.{Off}
-use Rattle.column.specs.Step.{OutStays, RedStays}
-use Rattle.rules.specs.Layout.{rows, hours, used, row_size, row, on_row, status}
+use Rattle.rules.specs.Layout.{rows, hours, used, row, on_row, status}
 use Rattle.rules.specs.Tally.{Tally}
 use Rattle.rules.proofs.Rows.{row_length}
 use Rattle.rules.proofs.Formed.{Formed, formed, formed_sized}
-use Rattle.rules.proofs.SoundFacts.{SoundLedger}
-use Rattle.rules.proofs.View.{view, out_of, red_of}
+use Rattle.rules.proofs.View.{out_of, red_of}
 use Rattle.rules.proofs.Leaves.{Leaves}
 use Rattle.rules.proofs.Effects.{kin_self, own_leaves}
 use Rattle.rules.proofs.Placed.{placed}

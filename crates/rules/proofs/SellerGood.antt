@@ -1,31 +1,29 @@
 -- The seller's moves keep what is kept.
-use mathlib.Core.Path.{◌≡◌, refl, sym, ap, subst, ◌∙◌}
-use mathlib.Core.Logic.{◌≢◌, ◌⊎◌, ⊎_elim, inl, inr}
-use mathlib.Core.Bool.{Bool, true, false, ◌||◌}
+use mathlib.Core.Path.{◌≡◌, refl, sym, ap, ◌∙◌}
+use mathlib.Core.Logic.{◌≢◌, ⊎_elim, inl, inr}
+use mathlib.Core.Bool.{Bool, true, false}
 use mathlib.Core.List.{List, [], ◌∷◌}
-use Prim.Native.Nat.{ℕ, suc, ◌+◌, ◌-◌, ◌≤◌, ◌<◌}
+use Prim.Native.Nat.{ℕ, ◌+◌, ◌≤◌, ◌<◌}
 use native.Mathlib.Decide.{ℕ_discrete}
 use native.Mathlib.Omega.{arith}
 use borrow.Author.Tests.{eqb-true, eqb-false}
 use lib.Dec.{eqb, lit<}
-use lib.ListN.{length, get_or, set}
-use lib.IntN.{ℤ, pos, neg_ℤ, ◌+ℤ◌}
-use Rattle.words.proofs.Laws.{lt_or_le}
+use lib.ListN.{length, get_or}
 use Rattle.column.specs.Column.{Off}
 use Rattle.rules.specs.Pick.{pick, when, ◌among◌}
-use Rattle.rules.specs.Numbers.{approved, granted_given, granted_part, available_part, displaced_part, CONFIRMED, DISPLACED, ANNULLED, RELINQUISH}
-use Rattle.rules.specs.Layout.{rows, hours, window, clock, used, row_size, row, on_row, reqtype, status, related, start, span_hours, hour_at, has, set_status, granted, available, add_hours, clear_hours, standing}
+use Rattle.rules.specs.Numbers.{approved, granted_given, granted_part, available_part, displaced_part, CONFIRMED, DISPLACED, ANNULLED}
+use Rattle.rules.specs.Layout.{hours, window, clock, used, row_size, row, on_row, reqtype, status, related, start, span_hours, hour_at, has, set_status, granted, available, add_hours, clear_hours, standing}
 use Rattle.rules.specs.Megawatts.{displaced_row, annulled_row, displace, annul}
-use Rattle.rules.specs.Confirming.{confirm, confirm_number, unconfirmed, short}
-use Rattle.rules.specs.Checks.{named, named_row, comes, profile}
+use Rattle.rules.specs.Confirming.{confirm}
+use Rattle.rules.specs.Checks.{named, named_row}
 use Rattle.rules.specs.SellerStatus.{counters, accepts, offers, granted_after, goes_on, annuls_confirmed, offered, offer_after, other_after, seller_after}
 use Rattle.rules.specs.Tally.{Tally, granted_in, changed, feed}
 use Rattle.rules.specs.declared.Action.{Action}
 use Rattle.rules.specs.declared.Answer.{Answer}
 use Rattle.rules.proofs.Formed.{Formed, formed}
-use Rattle.rules.proofs.View.{view, out_of, red_of}
+use Rattle.rules.proofs.View.{out_of, red_of}
 use Rattle.rules.proofs.Effects.{own_leaves, displace_leaves, annul_leaves, displaced_length, annulled_length, row_spanned}
-use Rattle.rules.proofs.Passed.{SellerPassed, OfferPassed, ConfirmPassed, confirm_passed, SellerMove, seller_move, annuls_from, annuls_open, or_some, is_one, last_one}
+use Rattle.rules.proofs.Passed.{SellerPassed, OfferPassed, confirm_passed, SellerMove, seller_move, annuls_from, annuls_open, or_some, is_one, last_one}
 use Rattle.rules.proofs.Placed.{placed}
 use Rattle.rules.proofs.Others.{displace_step, annul_step}
 use Rattle.rules.proofs.Quiet.{status_step, offered_step, offered_calm}
@@ -33,13 +31,13 @@ use Rattle.rules.proofs.Unmoved.{unmoved_offered}
 use Rattle.rules.proofs.Before.{unconfirmed_stays, short_stays}
 use Rattle.rules.proofs.Kept.{Same, same_self, same_status, same_offered, fitting_granted}
 use Rattle.rules.proofs.TallyLaws.{entry_after, fed_red, fed_quiet, fed_annul_top, fed_annul_child}
-use Rattle.rules.proofs.Entries.{shown, other_unsettled, status_agrees, displaced_agrees, annulled_agrees, goes_on_lem, after_length, offered_agrees, offered_start, offered_confirms, agrees_granted}
+use Rattle.rules.proofs.Entries.{shown, other_unsettled, status_agrees, displaced_agrees, annulled_agrees, goes_on_lem, offered_agrees, offered_start, offered_confirms, agrees_granted}
 use Rattle.rules.proofs.Shown.{shown_annulled}
-use Rattle.rules.proofs.Good.{Agrees, Good}
+use Rattle.rules.proofs.Good.{Good}
 use Rattle.rules.proofs.Tests.{Left, takes_annulled}
 use Rattle.rules.proofs.Answers.{AnswerOf, answer_counts}
 use Rattle.rules.proofs.Readying.{ready_on}
-use Rattle.rules.proofs.Naming.{set_status_lem, ready_status, either_agrees, is_used, spanned, is_reference, own_agrees, stepped_good, confirmed_good}
+use Rattle.rules.proofs.Naming.{set_status_lem, ready_status, either_agrees, is_used, spanned, own_agrees, stepped_good, confirmed_good}
 
 -- a row that is displaced, or annulled, has that status
 pub row_displaced : (H : ℕ) (r : List ℕ) → length (displaced_row H r) ≡ row_size H → status (displaced_row H r) ≡ DISPLACED

@@ -3,7 +3,7 @@ use mathlib.Core.Path.{◌≡◌, refl, sym, ap, ◌∙◌, subst}
 use mathlib.Core.Logic.{◌≢◌, ◌⊎◌, inl, inr}
 use mathlib.Core.Bool.{Bool, true, false, ◌&&◌, not}
 use mathlib.Core.List.{List}
-use Prim.Native.Nat.{ℕ, suc, ◌+◌, ◌-◌, ◌≤◌, ◌<◌}
+use Prim.Native.Nat.{ℕ, suc, ◌+◌, ◌≤◌, ◌<◌}
 use native.Mathlib.Omega.{arith}
 use borrow.Author.Tests.{eqb-true, ne_eqb, leb-true, not-false}
 use lib.Dec.{eqb, leb, lit<}
@@ -12,7 +12,7 @@ use lib.Seq.{get_or-set_same, get_or-set_other}
 use Rattle.words.proofs.Laws.{lt_or_le, and_left, and_right}
 use Rattle.rules.specs.Pick.{pick}
 use Rattle.rules.specs.Numbers.{profiles, most_entity, most_megawatts, end_second, entity, available_part, approved, ACCEPTED, CR_ACCEPTED, DISPLACED, RETRACTED}
-use Rattle.rules.specs.Layout.{rows, hours, window, clock, used, set_clock, row, on_row, reqtype, status, related, start, stop, hour_at, raise, set_status, Sized}
+use Rattle.rules.specs.Layout.{rows, hours, window, clock, used, set_clock, row, on_row, reqtype, related, start, stop, hour_at, raise, set_status, Sized}
 use Rattle.rules.specs.Sound.{sound}
 use Rattle.rules.specs.Megawatts.{in_force, carries_over}
 use Rattle.rules.specs.Confirming.{confirm}

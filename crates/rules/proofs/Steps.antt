@@ -14,7 +14,7 @@ use Rattle.words.specs.Lists.{covered}
 use Rattle.words.proofs.Laws.{lt_or_le}
 use Rattle.rules.specs.Pick.{pick}
 use Rattle.rules.specs.Numbers.{granted_part, available_part, displaced_part, reduced_part, RELINQUISH}
-use Rattle.rules.specs.Layout.{used, row, on_row, reqtype, status, related, start, related_row, span_hours, hours_of, standing}
+use Rattle.rules.specs.Layout.{row, on_row, reqtype, status, related, start, related_row, span_hours, hours_of, standing}
 use Rattle.rules.specs.Sound.{original}
 use Rattle.rules.specs.Moves.{is_confirmed}
 use Rattle.rules.specs.Megawatts.{take_from, returns_to, give_back}

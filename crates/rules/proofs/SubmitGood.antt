@@ -1,20 +1,17 @@
 -- A submission keeps what is kept.
-use mathlib.Core.Path.{◌≡◌, refl, sym, ap, subst, ◌∙◌}
+use mathlib.Core.Path.{◌≡◌, sym, ap, subst, ◌∙◌}
 use mathlib.Core.Logic.{◌≢◌, ◌⊎◌, ⊎_elim, inl, inr}
-use mathlib.Core.Bool.{Bool, true, false}
+use mathlib.Core.Bool.{true}
 use mathlib.Core.List.{List}
-use Prim.Native.Nat.{ℕ, suc, ◌+◌, ◌-◌, ◌≤◌, ◌<◌}
+use Prim.Native.Nat.{ℕ, suc, ◌+◌, ◌<◌}
 use native.Mathlib.Decide.{ℕ_discrete}
 use native.Mathlib.Omega.{arith}
 use lib.Dec.{lit<}
-use lib.ListN.{length, get_or}
-use lib.IntN.{ℤ, pos}
-use Rattle.column.specs.Column.{Col}
+use lib.ListN.{length}
 use Rattle.words.proofs.Laws.{lt_or_le}
 use Rattle.column.proofs.Final.{unused_out, unused_red}
 use Rattle.rules.specs.Numbers.{QUEUED}
 use Rattle.rules.specs.Layout.{rows, hours, used, row_size, row, status}
-use Rattle.rules.specs.Checks.{profile}
 use Rattle.rules.specs.Submit.{new_words, new_row, submit_after}
 use Rattle.rules.specs.Tally.{Entry, Tally, opened, counts, feed}
 use Rattle.rules.specs.declared.Action.{Action}
@@ -24,7 +21,7 @@ use Rattle.rules.proofs.SoundFacts.{sized}
 use Rattle.rules.proofs.Formed.{Formed, formed}
 use Rattle.rules.proofs.View.{view, view_of, out_of, red_of}
 use Rattle.rules.proofs.Effects.{Opens}
-use Rattle.rules.proofs.Passed.{SubmitPassed, RelatedPassed, ProfilePassed, profile_length}
+use Rattle.rules.proofs.Passed.{SubmitPassed, profile_length}
 use Rattle.rules.proofs.Submitted.{submit_opens, new_field}
 use Rattle.rules.proofs.Begins.{NewRelation, submit_step}
 use Rattle.rules.proofs.TallyLaws.{opened_own, opened_other, opened_out, opened_red}

@@ -10,7 +10,7 @@ use lib.ListN.{length, get_or}
 use Rattle.words.specs.Lists.{splice}
 use Rattle.words.proofs.Laws.{within_at, splice_in, splice_after}
 use Rattle.rules.specs.Numbers.{row_words, profiles, most_entity, most_megawatts, requested_part}
-use Rattle.rules.specs.Layout.{rows, hours, clock, used, row_of, row_size, row, reqtype, related, start, stop, related_row, hour_at}
+use Rattle.rules.specs.Layout.{rows, hours, used, row_of, row_size, row, reqtype, related, start, stop, related_row, hour_at}
 use Rattle.rules.specs.Checks.{profile}
 use Rattle.rules.specs.Submit.{new_words, new_row, submit_after}
 use Rattle.rules.specs.declared.Action.{Action}

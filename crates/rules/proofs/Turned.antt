@@ -1,15 +1,14 @@
 -- A ledger in which one row was written, and its column.
-use mathlib.Core.Path.{◌≡◌, refl, sym, ap, ◌∙◌}
+use mathlib.Core.Path.{◌≡◌, sym, ap, ◌∙◌}
 use mathlib.Core.Logic.{◌≢◌}
 use mathlib.Core.List.{List}
-use Prim.Native.Nat.{ℕ, ◌+◌, ◌<◌}
+use Prim.Native.Nat.{ℕ, ◌<◌}
 use native.Mathlib.Decide.{ℕ_discrete}
 use lib.ListN.{length, get_or}
 use lib.IntN.{ℤ}
 use Rattle.rules.specs.Numbers.{head_words, granted_part, available_part, displaced_part, reduced_part}
 use Rattle.rules.specs.Layout.{row, on_row, row_size, hour_at, Sized}
 use Rattle.rules.proofs.Rows.{on_sized, on_own, on_other, on_head}
-use Rattle.column.specs.Column.{Col}
 use Rattle.column.specs.Step.{Still}
 use Rattle.rules.proofs.View.{view}
 

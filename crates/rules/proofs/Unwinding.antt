@@ -12,8 +12,8 @@ use lib.Seq.{get_or-set_same, get_or-set_other}
 use Rattle.words.specs.Lists.{word_at, all_below, equal, roomy}
 use Rattle.words.proofs.Laws.{lt_or_le, and_left, and_right, all_below_lem, all_at, all_cong, within_at}
 use Rattle.rules.specs.Pick.{pick}
-use Rattle.rules.specs.Numbers.{row_words, profiles, most_megawatts, granted_part, available_part, displaced_part, CONFIRMED, ANNULLED}
-use Rattle.rules.specs.Layout.{rows, hours, used, row, on_row, reqtype, status, related, start, path, related_row, hour_at, hours_of, span_hours, granted, available, standing, set_status, has}
+use Rattle.rules.specs.Numbers.{row_words, most_megawatts, granted_part, available_part, displaced_part, ANNULLED}
+use Rattle.rules.specs.Layout.{rows, hours, used, row, on_row, reqtype, status, related, start, path, related_row, hour_at, hours_of, span_hours, granted, available, standing, set_status}
 use Rattle.rules.specs.Sound.{original}
 use Rattle.rules.specs.Moves.{is_confirmed, seller_may}
 use Rattle.rules.specs.Megawatts.{returns_to, annulled_row, annul}
@@ -22,7 +22,7 @@ use Rattle.rules.proofs.Turned.{Turned, turned, kept_word}
 use Rattle.rules.proofs.Seen.{Room, at, at_other}
 use Rattle.rules.proofs.Spans.{Spanned, span_at}
 use Rattle.rules.proofs.Writes.{megawatts, words, returns_profile, word_of, hour_of, returned_other}
-use Rattle.rules.proofs.SoundFacts.{SoundLedger, sized}
+use Rattle.rules.proofs.SoundFacts.{SoundLedger}
 use Rattle.rules.proofs.Formed.{formed}
 use Rattle.rules.proofs.Passed.{or_none, and_none}
 use Rattle.rules.proofs.Posts.{SoundPostings}

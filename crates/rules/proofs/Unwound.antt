@@ -15,7 +15,7 @@ use Rattle.words.proofs.Laws.{and_left, and_right}
 use Rattle.column.proofs.Sums.{sum_zero, sum_point}
 use Rattle.rules.specs.Pick.{pick}
 use Rattle.rules.specs.Numbers.{head_words, row_words, most_megawatts, granted_part, available_part, displaced_part, CONFIRMED, ANNULLED}
-use Rattle.rules.specs.Layout.{used, row_of, issued, row, reqtype, status, related, path, related_row, hour_at}
+use Rattle.rules.specs.Layout.{used, row_of, issued, row, reqtype, status, related_row, hour_at}
 use Rattle.rules.specs.Sound.{original}
 use Rattle.rules.specs.Moves.{is_confirmed, seller_may}
 use Rattle.rules.proofs.Writes.{megawatts}

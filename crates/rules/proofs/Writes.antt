@@ -1,21 +1,21 @@
 -- What is seen of a row at hour h after each of the rules' writes in it.
-use mathlib.Core.Path.{◌≡◌, sym, ap, ◌∙◌}
+use mathlib.Core.Path.{◌≡◌, ap, ◌∙◌}
 use mathlib.Core.Logic.{◌≢◌, ◌⊎◌, ⊎_elim, inl, inr}
 use mathlib.Core.Bool.{Bool, true, false}
 use mathlib.Core.List.{List}
 use Prim.Native.Nat.{ℕ, ◌+◌, ◌-◌, ◌≤◌, ◌<◌}
 use native.Mathlib.Omega.{arith}
 use borrow.Author.Tests.{eq-eqb}
-use lib.Dec.{eqb, lit<}
+use lib.Dec.{lit<}
 use lib.ListN.{length, get_or}
 use Rattle.words.specs.Lists.{covered}
 use Rattle.words.proofs.Laws.{lt_or_le, covered_at, part_at}
 use Rattle.rules.specs.Pick.{pick}
-use Rattle.rules.specs.Numbers.{row_words, profiles, granted_part, available_part, displaced_part, reduced_part, requested_part, offer_given, granted_given}
-use Rattle.rules.specs.Layout.{row_size, reqtype, status, start, stop, flags, flagged, span_hours, hour_at, hours_of, span, available, standing}
+use Rattle.rules.specs.Numbers.{row_words, profiles, granted_part, available_part, displaced_part, reduced_part}
+use Rattle.rules.specs.Layout.{status, hour_at, hours_of, standing}
 use Rattle.rules.specs.Moves.{is_confirmed}
 use Rattle.rules.proofs.Seen.{Room, Seen, at, at_other, hour_in, seen_self, seen_set, seen_put, seen_less, seen_add, seen_clear, standing_in, standing_off}
-use Rattle.rules.specs.Megawatts.{grant, take_from, returns_to, give_back, displaced_row, annulled_row, reduced_row}
+use Rattle.rules.specs.Megawatts.{grant, take_from, returns_to, give_back, reduced_row}
 use Rattle.rules.specs.Confirming.{held, emptied}
 
 -- a row's words, and its profiles' words at hour h

@@ -1,5 +1,5 @@
 -- 4 Approve.
-use Rattle.std.specs.Prelude.{Bool, true, ◌&&◌, ◌||◌, not, List, ℕ}
+use Rattle.std.specs.Prelude.{Bool, true, ◌||◌, not, List, ℕ}
 use Rattle.rules.specs.Pick.{◌gives◌else◌, ◌only_if◌, ◌then◌, when}
 use Rattle.rules.specs.Numbers.{approved, ACCEPTED}
 use Rattle.rules.specs.Layout.{on_row, reqtype, has, raise}

@@ -1,5 +1,5 @@
 -- Demand 3: one claim about every list of calls from a fresh ledger.
-use Rattle.std.specs.Prelude.{◌≡◌, ◌≢◌, ◌⊎◌, Bool, true, false, ◌&&◌, ◌||◌, not, List, [], ◌∷◌, ℕ, zero, suc, ◌+◌, ◌≤◌, ◌<◌, eqb, ℤ, pos, negsuc, ◌+ℤ◌}
+use Rattle.std.specs.Prelude.{◌≡◌, ◌≢◌, ◌⊎◌, Bool, true, false, ◌&&◌, ◌||◌, not, List, [], ◌∷◌, ℕ, zero, suc, ◌≤◌, ◌<◌, eqb, ℤ, pos, negsuc, ◌+ℤ◌}
 use Rattle.rules.specs.Pick.{pick, ◌among◌}
 use Rattle.words.specs.Lists.{word_at}
 use Rattle.rules.specs.Numbers.{granted_part, available_part, displaced_part, reduced_part, CONFIRMED, DISPLACED, RELINQUISH}

@@ -1,7 +1,7 @@
 -- Confirming row n with the megawatts mw granted. The seller's 10, the customer's 13, approval and lapse confirm.
-use Rattle.std.specs.Prelude.{Bool, ◌&&◌, ◌||◌, not, List, ℕ, eqb, length}
+use Rattle.std.specs.Prelude.{Bool, ◌&&◌, not, List, ℕ, eqb, length}
 use Rattle.words.specs.Lists.{covered, equal}
-use Rattle.rules.specs.Pick.{pick, ◌gives◌else◌, ◌only_if◌, ◌then◌}
+use Rattle.rules.specs.Pick.{pick, ◌gives◌else◌, ◌then◌}
 use Rattle.rules.specs.Numbers.{available_part, CONFIRMED, FULL_TRANSFER, RELINQUISH}
 use Rattle.rules.specs.Layout.{row, on_row, reqtype, start, stop, related_row, set_status, hours_of, set_hours, clear_hours}
 use Rattle.rules.specs.Sound.{original, transfer}

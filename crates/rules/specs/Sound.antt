@@ -1,9 +1,9 @@
 -- Types, their class up the chain, and the sound ledger.
-use Rattle.std.specs.Prelude.{Bool, false, ◌&&◌, ◌||◌, not, List, [], ◌∷◌, ℕ, zero, suc, ◌+◌, ◌-◌, eqb, leb, ltb, length, drop}
+use Rattle.std.specs.Prelude.{Bool, false, ◌&&◌, ◌||◌, not, List, [], ◌∷◌, ℕ, zero, suc, ◌-◌, eqb, leb, ltb, length, drop}
 use Rattle.words.specs.Lists.{part, all_below, within, zeros}
 use Rattle.rules.specs.Pick.{pick, ◌is_from◌to◌, ◌among◌}
 use Rattle.rules.specs.Numbers.{row_words, used_words, profiles, most_type, most_status, most_price, most_megawatts, most_flags, most_path, end_second, end_limit, entity, NONFIRM_REDIRECT, RELINQUISH}
-use Rattle.rules.specs.Layout.{rows, hours, provider, window, base, clock, used, head_end, row_of, row_base, row, reqtype, status, customer, seller, related, start, stop, flags, bid, offer, limit, path, related_row, hours_of, span}
+use Rattle.rules.specs.Layout.{rows, hours, provider, window, base, clock, used, head_end, row_base, row, reqtype, status, customer, seller, related, start, stop, flags, bid, offer, limit, path, related_row, hours_of, span}
 use Rattle.rules.specs.Create.{good_numbers}
 
 -- ORIGINAL, firm and non-firm; those sold by the related row's customer: RESALE, PART_TRANSFER, FULL_TRANSFER; the two transfers; the two redirects

@@ -1,5 +1,5 @@
 -- The tally: resold, redirected, transferred, relinquished and reduced, from the actions, their profiles and their answers alone.
-use Rattle.std.specs.Prelude.{Bool, ◌&&◌, not, List, [], ◌∷◌, ℕ, ◌-◌, eqb, leb, ℤ, pos, neg_ℤ, ◌+ℤ◌}
+use Rattle.std.specs.Prelude.{Bool, ◌&&◌, not, List, [], ◌∷◌, ℕ, eqb, leb, ℤ, pos, neg_ℤ, ◌+ℤ◌}
 use Rattle.rules.specs.Pick.{pick, ◌among◌}
 use Rattle.words.specs.Lists.{zeros}
 use Rattle.rules.specs.Numbers.{CONFIRMED, ANNULLED, RESALE, RELINQUISH}

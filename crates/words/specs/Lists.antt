@@ -1,5 +1,5 @@
 -- Lists of words: what the contracts on lent slices cite.
-use Rattle.std.specs.Prelude.{Bool, true, false, ◌&&◌, cond, List, [], ◌∷◌, ◌++◌, ◌⊎◌, ℕ, zero, suc, ◌+◌, ◌≤◌, length, take, drop, get_or, leb, ltb, eqb}
+use Rattle.std.specs.Prelude.{Bool, true, ◌&&◌, cond, List, [], ◌∷◌, ◌++◌, ◌⊎◌, ℕ, zero, suc, ◌+◌, ◌≤◌, length, take, drop, get_or, leb, ltb, eqb}
 
 -- the word at a place, 0 past the end
 abbrev pub word_at : List ℕ → ℕ → ℕ

@@ -48,7 +48,7 @@ open_number_spec =
     (λ c. omega (arith, c.shared_slice_known-3-1.given 1))
     (λ c. omega (arith, long c.before.before.before))
     (λ c. omega (arith, c.shared_slice_known-4-1.given 6))
-    (λ c κs. (at_own (is-sound c.before.before.before.before), refl))
+    (λ c κs. (at_own (is-sound c.before.before.before), refl))
     (λ c.
     ap (λ (x : Bool). x gives 20 else 0) (sym (ap not c.if-not-balanced.true)) ∙ judged _ c.balanced.result (is-sound c.before.before.before.before.before) c.balanced.ensures)
     (λ c.

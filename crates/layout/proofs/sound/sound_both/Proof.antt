@@ -2,7 +2,6 @@
 use mathlib.Core.Path.{sym, ◌∙◌}
 use native.Mathlib.Omega.{arith}
 use borrow.Author.Rules.{rules}
-use borrow.Author.Tests.{not-true, not-false}
 use Rattle.rules.specs.Layout.{rows, hours}
 use Rattle.rules.specs.Act.{sound_both}
 use Rattle.rules.proofs.Rows.{row_least}
