@@ -12,5 +12,5 @@ annuls_confirmed_spec =
     tie.close
     (tie.spec
     (λ c κs. search placed)
-    (λ c. and_goes _ _ _ (eq-eqb _ _ c.before.if1.true) c.is-confirmed.ensures)
-    (λ c. simp (ne_eqb _ _ c.if1.false)))
+    (λ c. and_goes _ _ _ (eq-eqb _ _ c.if-a-eq-ANNULLED.true) c.is_confirmed.ensures)
+    (λ c. simp (ne_eqb _ _ c.if-a-eq-ANNULLED.false)))

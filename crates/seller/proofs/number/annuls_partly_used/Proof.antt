@@ -13,5 +13,5 @@ annuls_partly_used_spec =
     (tie.spec
     (λ c κs. search rules)
     (λ c κs. search rules)
-    (λ c. and_goes _ _ _ (sym c.before.before.annuls_confirmed_lem.ensures ∙ c.before.if1.true) c.partly-used.ensures)
-    (λ c. stops _ c.before.annuls_confirmed_lem.ensures c.if1.false))
+    (λ c. and_goes _ _ _ (sym c.annuls_confirmed.ensures ∙ c.if-annuls_confirmed.true) c.partly_used.ensures)
+    (λ c. stops _ c.annuls_confirmed.ensures c.if-annuls_confirmed.false))

@@ -21,4 +21,4 @@ covers_requested_spec =
     (λ c. search rules)
     (λ c. search rules)
     (λ c κs. search rules)
-    (λ c. let s = c.before.before.before.before.before.before in c.all-covered.ensures ∙ ap (λ (v : List ℕ). covered s.args.mw.now v) (span_lent s.requires.0 (lit< tt) c.before.before.before.span_at.ensures c.before.before.count_of.result c.before.before.count_of.ensures.0)))
+    (λ c. c.all_covered.ensures ∙ ap (λ (v : List ℕ). covered c.args.mw.now v) (span_lent c.requires.0 (lit< tt) c.span_at-from.ensures c.count_of-count.result c.count_of-count.ensures.0)))

@@ -30,17 +30,15 @@ fit_number_spec =
     tie.close
     (tie.spec
     (λ c κs. search rules)
-    (λ c. let s = c.before.before.before.before in fit-by s.requires.0 s.args.mw.now (hit _ _ _ (sym c.before.unfit-offer.ensures ∙ c.if1.true)))
+    (λ c. fit-by c.requires.0 c.args.mw.now (hit _ _ _ (sym c.unfit_offer.ensures ∙ c.if-unfit_offer.true)))
     (λ c κs. search rules)
     (λ c.
-    let s = c.before.before.before.before.before.before in
-    fit-by s.requires.0 s.args.mw.now (skip _ _ _ _ (sym c.before.before.before.unfit-offer.ensures ∙ c.before.before.if1.false) (skip _ _ _ _ (sym c.before.goes_on.ensures ∙ not-true _ c.if2.true) refl)))
+    fit-by c.requires.0 c.args.mw.now (skip _ _ _ _ (sym c.unfit_offer.ensures ∙ c.if-unfit_offer.false) (skip _ _ _ _ (sym c.goes_on.ensures ∙ c.if-not-goes_on.true) refl)))
     (λ c κs. search placed)
     (λ c κs. search rules)
     (λ c κs. search rules)
     (λ c.
-    let s = c.before.before.before.before.before.before.before.before.before in
-    fit-by s.requires.0 s.args.mw.now
-    (skip _ _ _ _ (sym c.before.before.before.before.before.before.unfit-offer.ensures ∙ c.before.before.before.before.before.if1.false)
-    (hit_by _ _ _ _ (sym c.before.before.before.before.goes_on.ensures ∙ not-false _ c.before.before.before.if2.false)
-    (c.confirm-number.ensures ∙ ap (λ (b : Bool). confirm_number s.args.hours s.args.l.now s.args.n s.args.mw.now b) (c.before.has-flag.ensures ∙ ap (λ (k : ℕ). has_flag approved k) c.before.before.word_at.ensures))))))
+    fit-by c.requires.0 c.args.mw.now
+    (skip _ _ _ _ (sym c.unfit_offer.ensures ∙ c.if-unfit_offer.false)
+    (hit_by _ _ _ _ (sym c.goes_on.ensures ∙ c.if-not-goes_on.false)
+    (c.confirm_number.ensures ∙ ap (λ (b : Bool). confirm_number c.args.hours c.args.l.now c.args.n c.args.mw.now b) (c.has_flag.ensures ∙ ap (λ (k : ℕ). has_flag approved k) c.word_at-flags.ensures))))))

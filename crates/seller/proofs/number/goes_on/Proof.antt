@@ -12,5 +12,5 @@ goes_on_spec =
     tie.close
     (tie.spec
     (λ c κs. search rules)
-    (λ c. and_goes _ _ _ (eq-eqb _ _ c.before.if1.true) c.needs-no-more.ensures)
-    (λ c. simp (ne_eqb _ _ c.if1.false)))
+    (λ c. and_goes _ _ _ (eq-eqb _ _ c.if-a-eq-ACCEPTED.true) c.needs_no_more.ensures)
+    (λ c. simp (ne_eqb _ _ c.if-a-eq-ACCEPTED.false)))

@@ -12,11 +12,11 @@ use Rattle.megawatts.proofs.Laws.{placed}
 use Rattle.seller.proofs.number.needs_no_more.Statement.{statement}
 use Rattle.seller.proofs.number.needs_no_more.Tie as tie
 
-first : (c : tie.After-has-flag) → has_flag preconfirmed (flags (row c.before.before.before.before.args.hours c.before.before.before.before.args.l.now c.before.before.before.before.args.n)) ≡ c.has-flag.result
-first c = ap (λ (k : ℕ). has_flag preconfirmed k) (sym c.before.before.word_at.ensures) ∙ sym c.has-flag.ensures
+first : (c : tie.After-has_flag) → has_flag preconfirmed (flags (row c.args.hours c.args.l.now c.args.n)) ≡ c.has_flag.result
+first c = ap (λ (k : ℕ). has_flag preconfirmed k) (sym c.word_at-flags.ensures) ∙ sym c.has_flag.ensures
 
-second : (c : tie.After-is-transfer) → not (transfer (get_or (row c.before.before.before.before.before.before.args.hours c.before.before.before.before.before.before.args.l.now c.before.before.before.before.before.before.args.n) 0 0)) ≡ not c.is-transfer.result
-second c = ap not (sym (c.is-transfer.ensures ∙ ap transfer c.before.before.before.word-at2.ensures))
+second : (c : tie.After-is_transfer) → not (transfer (get_or (row c.args.hours c.args.l.now c.args.n) 0 0)) ≡ not c.is_transfer.result
+second c = ap not (sym (c.is_transfer.ensures ∙ ap transfer c.word_at-reqtype.ensures))
 
 pub needs_no_more_spec : {M : Type 1} → statement M
 needs_no_more_spec =
@@ -27,6 +27,6 @@ needs_no_more_spec =
     (λ c κs. search rules)
     (λ c κs. search rules)
     (λ c κs. search rules)
-    (λ c. and_goes _ _ _ (first c.before.before.before ∙ c.before.before.if1.true) (c.if2.true ∙ or_stops _ _ (second c.before ∙ c.if2.true)))
-    (λ c. and_goes _ _ _ (first c.before.before.before.before ∙ c.before.before.before.if1.true) (or_goes _ _ _ (second c.before.before ∙ c.before.if2.false) (c.has-flag2.ensures ∙ ap (λ (k : ℕ). has_flag approved k) c.before.before.before.before.before.before.word_at.ensures)))
-    (λ c. stops _ (sym (first c.before)) c.if1.false))
+    (λ c. and_goes _ _ _ (first c.before.before.before ∙ c.if-has_flag.true) (ap not c.if-not-is_transfer.true ∙ or_stops _ _ (second c.before ∙ ap not c.if-not-is_transfer.true)))
+    (λ c. and_goes _ _ _ (first c.before.before.before.before ∙ c.if-has_flag.true) (or_goes _ _ _ (second c.before.before ∙ ap not c.if-not-is_transfer.false) (c.has_flag-else-not-is_transfer.ensures ∙ ap (λ (k : ℕ). has_flag approved k) c.word_at-flags.ensures)))
+    (λ c. stops _ (sym (first c.before)) c.if-has_flag.false))

@@ -12,4 +12,4 @@ no_seller_move_spec =
     tie.close
     (tie.spec
     (λ c κs. search placed)
-    (λ c. ap not c.seller-may-row.ensures))
+    (λ c. ap not c.seller_may_row.ensures))

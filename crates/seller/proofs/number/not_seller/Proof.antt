@@ -15,6 +15,6 @@ not_seller_spec =
     tie.close
     (tie.spec
     (λ c κs. search placed)
-    (λ c. and_stops _ _ (ap not (eq-eqb _ _ (c.if1.true ∙ c.before.before.word_at.ensures))))
+    (λ c. and_stops _ _ (ap not (eq-eqb _ _ (c.if-a-word_at.true ∙ c.word_at.ensures))))
     (λ c κs. search rules)
-    (λ c. and_goes _ _ _ (ap not (ne_eqb _ _ (λ e. c.before.if1.false (e ∙ sym c.before.before.before.word_at.ensures)))) (ap not c.provider-annuls.ensures)))
+    (λ c. and_goes _ _ _ (ap not (ne_eqb _ _ (λ e. c.if-a-word_at.false (e ∙ sym c.word_at.ensures)))) (ap not c.provider_annuls.ensures)))

@@ -10,13 +10,13 @@ use Rattle.megawatts.proofs.Named.{of_named, suits}
 use Rattle.seller.proofs.number.offer_number.Statement.{statement}
 use Rattle.seller.proofs.number.offer_number.Tie as tie
 
-abbrev S : tie.After-bad-if-comes → tie.Start
+abbrev S : tie.After-bad_if_comes → tie.Start
 S c = c.before.before.before.before
 
-bad : (c : tie.After-bad-if-comes) → c.bad_if_comes_lem.result ≡ bad_if_comes (S c).args.words.now (S c).args.a (row (S c).args.hours (S c).args.l.now (S c).args.n)
-bad c = bad_if_comes_lem (S c).args.words.now (S c).args.a (row (S c).args.hours (S c).args.l.now (S c).args.n) c.bad_if_comes_lem.ensures c.before.count_of.ensures.0
+bad : (c : tie.After-bad_if_comes) → c.bad_if_comes.result ≡ bad_if_comes (S c).args.words.now (S c).args.a (row (S c).args.hours (S c).args.l.now (S c).args.n)
+bad c = bad_if_comes_lem (S c).args.words.now (S c).args.a (row (S c).args.hours (S c).args.l.now (S c).args.n) c.bad_if_comes.ensures c.count_of-count.ensures.0
 
-named-bad : (c : tie.After-bad-if-comes) → c.bad_if_comes_lem.result ≡ bad_if_comes (S c).args.words.now (S c).args.a (named_row (S c).args.hours (S c).args.l.now (S c).args.a)
+named-bad : (c : tie.After-bad_if_comes) → c.bad_if_comes.result ≡ bad_if_comes (S c).args.words.now (S c).args.a (named_row (S c).args.hours (S c).args.l.now (S c).args.a)
 named-bad c = bad c ∙ of_named (bad_if_comes (S c).args.words.now (S c).args.a) (S c).requires
 
 pub offer_number_spec : {M : Type 1} → statement M
@@ -26,8 +26,8 @@ offer_number_spec =
     (tie.spec
     (λ c κs. search rules)
     (λ c κs. search rules)
-    (λ c. hit _ _ _ (sym (named-bad c.before) ∙ c.if1.true))
+    (λ c. hit _ _ _ (sym (named-bad c.before) ∙ c.if-bad_if_comes.true))
     (λ c κs. search rules)
-    (λ c. skip _ _ _ _ (sym (named-bad c.before.before.before) ∙ c.before.before.if1.false) (hit _ _ _ (sym c.before.bad-price.ensures ∙ c.if2.true)))
-    (λ c κs. let t = c.before.before.before in ((S t).requires, suits (S t).args.words.now (S t).args.a _ (sym (bad t) ∙ c.before.before.if1.false)))
-    (λ c. skip _ _ _ _ (sym (named-bad c.before.before.before.before) ∙ c.before.before.before.if1.false) (skip _ _ _ _ (sym c.before.before.bad-price.ensures ∙ c.before.if2.false) c.granted-number.ensures)))
+    (λ c. skip _ _ _ _ (sym (named-bad c.before.before.before) ∙ c.if-bad_if_comes.false) (hit _ _ _ (sym c.bad_price.ensures ∙ c.if-bad_price.true)))
+    (λ c κs. let t = c.before.before.before in ((S t).requires, suits (S t).args.words.now (S t).args.a _ (sym (bad t) ∙ c.if-bad_if_comes.false)))
+    (λ c. skip _ _ _ _ (sym (named-bad c.before.before.before.before) ∙ c.if-bad_if_comes.false) (skip _ _ _ _ (sym c.bad_price.ensures ∙ c.if-bad_price.false) c.granted_number.ensures)))

@@ -13,5 +13,5 @@ offers_spec =
     (tie.spec
     (λ c κs. search rules)
     (λ c κs. search rules)
-    (λ c. c.if1.true ∙ or_stops _ _ (sym c.before.counters.ensures ∙ c.if1.true))
-    (λ c. or_goes _ _ _ (sym c.before.before.counters.ensures ∙ c.before.if1.false) c.accepts.ensures))
+    (λ c. c.if-counters.true ∙ or_stops _ _ (sym c.counters.ensures ∙ c.if-counters.true))
+    (λ c. or_goes _ _ _ (sym c.counters.ensures ∙ c.if-counters.false) c.accepts.ensures))

@@ -16,7 +16,7 @@ provider_annuls_spec =
     tie.close
     (tie.spec
     (λ c κs. search placed)
-    (λ c. omega (arith, head_placed c.before.before.before.requires))
-    (λ c. and_goes _ _ _ (eq-eqb _ _ c.before.before.if1.true) (and_goes _ _ _ (eq-eqb _ _ c.if2.true) (ap (λ (k : ℕ). eqb k RESALE) c.before.before.before.before.before.word_at.ensures)))
-    (λ c. simp (eq-eqb _ _ c.before.before.if1.true, ne_eqb _ _ c.if2.false))
-    (λ c. simp (ne_eqb _ _ c.if1.false)))
+    (λ c. omega (arith, head_placed c.requires))
+    (λ c. and_goes _ _ _ (eq-eqb _ _ c.if-a-l.true) (and_goes _ _ _ (eq-eqb _ _ c.if-a-eq-ANNULLED.true) (ap (λ (k : ℕ). eqb k RESALE) c.word_at-reqtype.ensures)))
+    (λ c. simp (eq-eqb _ _ c.if-a-l.true, ne_eqb _ _ c.if-a-eq-ANNULLED.false))
+    (λ c. simp (ne_eqb _ _ c.if-a-l.false)))

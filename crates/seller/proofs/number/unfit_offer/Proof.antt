@@ -16,8 +16,8 @@ unfit_offer_spec =
     (tie.spec
     (λ c κs. search rules)
     (λ c κs. search rules)
-    (λ c. hit_by _ _ _ _ (sym c.before.before.counters.ensures ∙ c.before.if1.true) (ap not c.covers-requested.ensures))
+    (λ c. hit_by _ _ _ _ (sym c.counters.ensures ∙ c.if-counters.true) (ap not c.covers_requested.ensures))
     (λ c κs. search placed)
-    (λ c. skip _ _ _ _ (sym c.before.before.before.before.counters.ensures ∙ c.before.before.before.if1.false) (ap not (and_stops _ _ (ne_eqb _ _ (λ e. c.if2.true (e ∙ sym c.before.before.word_at.ensures))))))
+    (λ c. skip _ _ _ _ (sym c.counters.ensures ∙ c.if-counters.false) (ap not (and_stops _ _ (ne_eqb _ _ (λ e. c.if-a-word_at.true (e ∙ sym c.word_at.ensures))))))
     (λ c κs. search rules)
-    (λ c. skip _ _ _ _ (sym c.before.before.before.before.before.counters.ensures ∙ c.before.before.before.before.if1.false) (ap not (and_goes _ _ _ (eq-eqb _ _ (c.before.if2.false ∙ c.before.before.before.word_at.ensures)) c.equals-requested.ensures))))
+    (λ c. skip _ _ _ _ (sym c.counters.ensures ∙ c.if-counters.false) (ap not (and_goes _ _ _ (eq-eqb _ _ (c.if-a-word_at.false ∙ c.word_at.ensures)) c.equals_requested.ensures))))

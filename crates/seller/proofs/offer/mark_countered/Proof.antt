@@ -13,12 +13,11 @@ mark_countered_spec =
     tie.close
     (tie.spec
     (λ c κs. search rules)
-    (λ c. skip _ _ _ _ (sym c.before.counters.ensures ∙ not-true _ c.if1.true) refl)
+    (λ c. skip _ _ _ _ (sym c.counters.ensures ∙ c.if-not-counters.true) refl)
     (λ c. search rules)
     (λ c κs. search rules)
     (λ c. search rules)
     (λ c. search rules)
     (λ c.
-    let t = c.before.before in
-    hit_by _ _ _ _ (sym t.before.counters.ensures ∙ not-false _ t.if1.false)
-    (ap (λ (k : ℕ). set t.before.before.before.args.r.now 7 k) c.flag_raised.ensures)))
+    hit_by _ _ _ _ (sym c.counters.ensures ∙ c.if-not-counters.false)
+    (ap (λ (k : ℕ). set c.args.r.now 7 k) c.flag_raised.ensures)))

@@ -27,34 +27,33 @@ unfolding offer_after
 offer-by {l} {R} {H} {n} {a} m w e =
     e ∙ ap (λ (k : ℕ). when (goes_on a (row H l k)) (confirm H k (granted_after H w a (row H l k))) (on_row H k (offered H (clock l + window l) a (granted_after H w a (row H l k))) l)) m.is
 
-abbrev S : tie.After-confirm-own-arg → tie.Start
-S c = c.before.before.before.before.before.before.before.before.before.before.before.before
+abbrev S : tie.After-confirm_own-arg-1 → tie.Start
+S c = c.before.before.before.before.before.before.before.before.before.before.before
 
-abbrev mw : tie.After-confirm-own-arg → List ℕ
+abbrev mw : tie.After-confirm_own-arg-1 → List ℕ
 mw c = granted_after (S c).args.hours (S c).args.words.now (S c).args.a (row (S c).args.hours (S c).args.l.now (S c).args.n)
 
-confirms : (c : tie.After-confirm-own-arg) → Confirms c.before.before.before.before.put-offer.new.0 (S c).args.rows (S c).args.hours (S c).args.n (mw c)
+confirms : (c : tie.After-confirm_own-arg-1) → Confirms c.put_offer.new.l (S c).args.rows (S c).args.hours (S c).args.n (mw c)
 confirms c =
-    subst (λ (x : List ℕ). Confirms x (S c).args.rows (S c).args.hours (S c).args.n (mw c)) (sym c.before.before.before.before.put-offer.ensures)
-    ((S c).requires.confirms (sym c.before.before.before.before.before.before.goes_on.ensures ∙ not-false _ c.before.if1.false))
+    subst (λ (x : List ℕ). Confirms x (S c).args.rows (S c).args.hours (S c).args.n (mw c)) (sym c.put_offer.ensures)
+    ((S c).requires.confirms (sym c.goes_on-goes.ensures ∙ c.if-not-goes.false))
 
 pub offer_spec : {M : Type 1} → statement M
 offer_spec =
     tie.close
     (tie.spec
-    (λ c. omega (arith, head_placed c.before.before.before.requires.named.placed))
-    (λ c. omega (arith, head_placed c.before.before.before.before.requires.named.placed))
-    (λ c. let h = c.before.before.before.before.requires.named.placed.formed.head in omega (arith, h.clock, h.window.1))
-    (λ c κs. c.before.before.before.before.before.requires.named.placed)
-    (λ c κs. let s = c.before.before.before.before.before.before.before in (s.requires.named.placed, (s.requires.suits, s.requires.price)))
+    (λ c. omega (arith, head_placed c.requires.named.placed))
+    (λ c. omega (arith, head_placed c.requires.named.placed))
+    (λ c. let h = c.requires.named.placed.formed.head in omega (arith, h.clock, h.window.1))
+    (λ c κs. c.requires.named.placed)
+    (λ c κs. (c.requires.named.placed, (c.requires.suits, c.requires.price)))
     (λ c. search rules)
     (λ c.
-    let s = c.before.before.before.before.before.before.before.before.before.before.before in
-    offer-by s.requires.named s.args.words.now
-    (skip _ _ _ _ (sym c.before.before.before.before.before.goes_on.ensures ∙ not-true _ c.if1.true) c.before.before.before.put-offer.ensures))
+    offer-by c.requires.named c.args.words.now
+    (skip _ _ _ _ (sym c.goes_on-goes.ensures ∙ c.if-not-goes.true) c.put_offer.ensures))
     (λ c κs.
     let k = confirms c in
-    let l' = c.before.before.before.before.put-offer.new.0 in (
+    let l' = c.put_offer.new.l in (
       k.placed,
       (
         ap (λ (v : List ℕ). short (S c).args.hours l' (S c).args.n v) k.force ∙ k.short,
@@ -65,8 +64,8 @@ offer_spec =
     (λ c.
     let t = c.before.before.before in
     let s = S t in
-    offer-by s.pre.named s.args.words.now
-    (hit_by _ _ _ _ (sym t.before.before.before.before.before.before.goes_on.ensures ∙ not-false _ t.before.if1.false)
-    (c.before.before.confirm-own.ensures
-    ∙ ap (λ (v : List ℕ). confirm s.args.hours s.args.n v t.before.before.before.before.put-offer.new.0) (confirms t).force
-    ∙ ap (λ (x : List ℕ). confirm s.args.hours s.args.n (mw t) x) t.before.before.before.before.put-offer.ensures))))
+    offer-by s.requires.named s.args.words.now
+    (hit_by _ _ _ _ (sym t.goes_on-goes.ensures ∙ t.if-not-goes.false)
+    (c.confirm_own.ensures
+    ∙ ap (λ (v : List ℕ). confirm s.args.hours s.args.n v t.put_offer.new.l) (confirms t).force
+    ∙ ap (λ (x : List ℕ). confirm s.args.hours s.args.n (mw t) x) t.put_offer.ensures))))

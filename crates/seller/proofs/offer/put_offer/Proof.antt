@@ -18,32 +18,27 @@ pub put_offer_spec : {M : Type 1} → statement M
 put_offer_spec =
     tie.close
     (tie.spec
-    (λ c κs. let p = c.before.before.requires.0 in ((sized p).rows, (sized p).hours, in_rows p))
+    (λ c κs. let p = c.requires.0 in ((sized p).rows, (sized p).hours, in_rows p))
     (λ c. search rules)
     (λ c. search rules)
     (λ c. search rules)
     (λ c. search rules)
     (λ c. search rules)
     (λ c. search rules)
-    (λ c. omega (arith, (sized c.before.before.before.requires.0).long))
+    (λ c. omega (arith, (sized c.requires.0).long))
     (λ c κs.
-    let t = c.before in
-    let s = c.before.before.before.before in
-    let z = sized s.requires.0 in
-    let e = sym (row_lent z t.row_at.ensures) in (
-      (row_lent_length z t.row_at.ensures, z.hours),
+    let z = sized c.requires.0 in
+    let e = sym (row_lent z c.row_at-at.ensures) in (
+      (row_lent_length z c.row_at-at.ensures, z.hours),
       (
-        subst (λ (r : List ℕ). SoundWords s.args.hours r) e (own_words s.requires.0),
-        (subst (λ (r : List ℕ). Suits s.args.words.now s.args.a r) e s.requires.1.0, s.requires.1.1),
+        subst (λ (r : List ℕ). SoundWords c.args.hours r) e (own_words c.requires.0),
+        (subst (λ (r : List ℕ). Suits c.args.words.now c.args.a r) e c.requires.1.0, c.requires.1.1),
       ),
     ))
     (λ c. search rules)
     (λ c.
-    let g = c.before.before in
-    let t = c.before.before.before.before in
-    let s = c.before.before.before.before.before.before.before in
-    let z = sized s.requires.0 in
-    let at = t.row_at.result in
-    row_back z t.row_at.ensures (offered s.args.hours s.args.expires s.args.a (granted_after s.args.hours s.args.words.now s.args.a (row s.args.hours s.args.l.now s.args.n))) g.offer-row.new.0 g.offer-row.auto.0
-    (g.offer-row.ensures
-    ∙ ap (λ (r : List ℕ). offered s.args.hours s.args.expires s.args.a (granted_after s.args.hours s.args.words.now s.args.a r) (take (at + row_size s.args.hours - at) (drop at s.args.l.now))) (row_lent z t.row_at.ensures))))
+    let z = sized c.requires.0 in
+    let at = c.row_at-at.result in
+    row_back z c.row_at-at.ensures (offered c.args.hours c.args.expires c.args.a (granted_after c.args.hours c.args.words.now c.args.a (row c.args.hours c.args.l.now c.args.n))) c.offer_row.new.r c.offer_row.auto.r
+    (c.offer_row.ensures
+    ∙ ap (λ (r : List ℕ). offered c.args.hours c.args.expires c.args.a (granted_after c.args.hours c.args.words.now c.args.a r) (take (at + row_size c.args.hours - at) (drop at c.args.l.now))) (row_lent z c.row_at-at.ensures))))

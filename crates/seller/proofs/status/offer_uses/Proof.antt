@@ -24,7 +24,7 @@ use Rattle.seller.specs.Uses.{offer_uses}
 use Rattle.seller.proofs.status.offer_uses.Statement.{statement}
 use Rattle.seller.proofs.status.offer_uses.Tie as tie
 
-abbrev S : tie.After-goes-on → tie.Start
+abbrev S : tie.After-goes_on → tie.Start
 S c = c.before.before.before.before
 
 abbrev H : tie.Start → ℕ
@@ -34,13 +34,13 @@ H s = s.args.hours
 abbrev G : tie.Start → List ℕ
 G s = granted_after (H s) s.args.words.now s.args.a (named_row (H s) s.args.l.now s.args.a)
 
-on : (c : tie.After-goes-on) → c.goes_on.result ≡ goes_on (S c).args.a (named_row (H (S c)) (S c).args.l.now (S c).args.a)
-on c = let s = S c in c.goes_on.ensures ∙ ap (λ (k : ℕ). goes_on s.args.a (row (H s) s.args.l.now k)) s.pre.1.0.is
+on : (c : tie.After-goes_on) → c.goes_on.result ≡ goes_on (S c).args.a (named_row (H (S c)) (S c).args.l.now (S c).args.a)
+on c = let s = S c in c.goes_on.ensures ∙ ap (λ (k : ℕ). goes_on s.args.a (row (H s) s.args.l.now k)) s.requires.1.0.is
 
-yes-on : (c : tie.Else1) → goes_on (S c.before).args.a (named_row (H (S c.before)) (S c.before).args.l.now (S c.before).args.a) ≡ true
-yes-on c = sym (on c.before) ∙ not-false _ c.if1.false
+yes-on : (c : tie.Else-not-goes_on) → goes_on (S c.before).args.a (named_row (H (S c.before)) (S c.before).args.l.now (S c.before).args.a) ≡ true
+yes-on c = sym (on c.before) ∙ c.if-not-goes_on.false
 
-enough : (c : tie.Else1) → short (H (S c.before)) (S c.before).args.l.now (named (S c.before).args.a) (G (S c.before)) ≡ false
+enough : (c : tie.Else-not-goes_on) → short (H (S c.before)) (S c.before).args.l.now (named (S c.before).args.a) (G (S c.before)) ≡ false
 enough c = (confirm_passed _ _ _ _ _ ((S c.before).requires.1.1.0.confirms (yes-on c))).short
 
 -- row n is the named one
@@ -51,23 +51,23 @@ abbrev T : tie.After-comes → tie.Start
 T c = S c.before.before
 
 -- no profile comes: granted after is the profile in force
-stays : (c : tie.Then2) → in_force (H (T c.before)) (named_row (H (T c.before)) (T c.before).args.l.now (T c.before).args.a) ≡ G (T c.before)
-stays c = let s = T c.before in sym (granted_stays (H s) s.args.words.now s.args.a (named_row (H s) s.args.l.now s.args.a) (sym c.before.comes.ensures ∙ not-true _ c.if2.true))
+stays : (c : tie.Then-not-comes) → in_force (H (T c.before)) (named_row (H (T c.before)) (T c.before).args.l.now (T c.before).args.a) ≡ G (T c.before)
+stays c = let s = T c.before in sym (granted_stays (H s) s.args.words.now s.args.a (named_row (H s) s.args.l.now s.args.a) (sym c.comes.ensures ∙ c.if-not-comes.true))
 
-force : (c : tie.Then2) → in_force (H (T c.before)) (row (H (T c.before)) (T c.before).args.l.now (T c.before).args.n) ≡ G (T c.before)
-force c = let s = T c.before in ap (λ (k : ℕ). in_force (H s) (row (H s) s.args.l.now k)) s.pre.1.0.is ∙ stays c
+force : (c : tie.Then-not-comes) → in_force (H (T c.before)) (row (H (T c.before)) (T c.before).args.l.now (T c.before).args.n) ≡ G (T c.before)
+force c = let s = T c.before in ap (λ (k : ℕ). in_force (H s) (row (H s) s.args.l.now k)) s.requires.1.0.is ∙ stays c
 
 -- a profile comes: it is granted after
-came : (c : tie.Else2) → comes (T c.before).args.a ≡ true
-came c = sym c.before.comes.ensures ∙ not-false _ c.if2.false
+came : (c : tie.Else-not-comes) → comes (T c.before).args.a ≡ true
+came c = sym c.comes.ensures ∙ c.if-not-comes.false
 
-passed : (c : tie.Else2) → ProfilePassed (T c.before).args.words.now (T c.before).args.a (span_hours (named_row (H (T c.before)) (T c.before).args.l.now (T c.before).args.a))
+passed : (c : tie.Else-not-comes) → ProfilePassed (T c.before).args.words.now (T c.before).args.a (span_hours (named_row (H (T c.before)) (T c.before).args.l.now (T c.before).args.a))
 passed c = (T c.before).requires.1.1.0.profile (came c)
 
-lent : (c : tie.Else2) → take ((T c.before).args.a.offset + (T c.before).args.a.length - (T c.before).args.a.offset) (drop (T c.before).args.a.offset (T c.before).args.words.now) ≡ profile (T c.before).args.words.now (T c.before).args.a
-lent c = profile_lent (T c.before).args.words.now (T c.before).args.a (passed c).ranges
+lent : (c : tie.Else-not-comes) → take ((T c.before).args.a.offset + (T c.before).args.a.length - (T c.before).args.a.offset) (drop (T c.before).args.a.offset (T c.before).args.words.now) ≡ profile (T c.before).args.words.now (T c.before).args.a
+lent c = profile_lent (T c.before).args.words.now (T c.before).args.a (passed c).fits
 
-is-granted : (c : tie.Else2) → take ((T c.before).args.a.offset + (T c.before).args.a.length - (T c.before).args.a.offset) (drop (T c.before).args.a.offset (T c.before).args.words.now) ≡ G (T c.before)
+is-granted : (c : tie.Else-not-comes) → take ((T c.before).args.a.offset + (T c.before).args.a.length - (T c.before).args.a.offset) (drop (T c.before).args.a.offset (T c.before).args.words.now) ≡ G (T c.before)
 is-granted c = let s = T c.before in lent c ∙ sym (granted_comes (H s) s.args.words.now s.args.a (named_row (H s) s.args.l.now s.args.a) (came c))
 
 pub offer_uses_spec : {M : Type 1} → statement M
@@ -75,19 +75,19 @@ unfolding offer_uses
 offer_uses_spec =
     tie.close
     (tie.spec
-    (λ c κs. c.before.before.before.requires.1.0.placed)
-    (λ c. and_stops _ _ (sym (on c.before) ∙ not-true _ c.if1.true))
+    (λ c κs. c.requires.1.0.placed)
+    (λ c. and_stops _ _ (sym (on c.before) ∙ c.if-not-goes_on.true))
     (λ c κs. search rules)
     (λ c κs.
     let s = T c.before in (
-      s.pre.0,
+      s.requires.0,
       (
-        s.pre.1.0.placed.row,
+        s.requires.1.0.placed.row,
         (
           ap (λ (v : List ℕ). short (H s) s.args.l.now s.args.n v) (force c)
-              ∙ ap (λ (k : ℕ). short (H s) s.args.l.now k (G s)) s.pre.1.0.is
+              ∙ ap (λ (k : ℕ). short (H s) s.args.l.now k (G s)) s.requires.1.0.is
               ∙ enough c.before.before,
-          s.pre.1.1.1,
+          s.requires.1.1.1,
         ),
       ),
     ))
@@ -95,11 +95,11 @@ offer_uses_spec =
     let t = c.before in
     let s = T t.before in
     and_goes _ _ _ (yes-on t.before.before)
-    (c.exceeds-confirming-own.ensures
+    (c.exceeds_confirming_own.ensures
     ∙ ap (λ (v : List ℕ). exceeds_at (H s) s.args.l.now s.args.n s.args.postings.now (λ x h. use_confirming (H s) s.args.l.now s.args.n v x h)) (force t)
     ∙ at s (G s)))
     (λ c. search rules)
-    (λ c. omega (arith, c.struct-known2.given))
+    (λ c. omega (arith, c.struct_known-2-1.given))
     (λ c. omega (arith, (passed c.before.before).fits))
     (λ c. search rules)
     (λ c. search rules)
@@ -108,19 +108,19 @@ offer_uses_spec =
     (λ c κs.
     let e = c.before.before.before in
     let s = T e.before in (
-      s.pre.0,
+      s.requires.0,
       (
-        s.pre.1.0.placed.row,
+        s.requires.1.0.placed.row,
         (
           (
-            ap length (lent e) ∙ profile_length (passed e) ∙ sym (ap (λ (k : ℕ). span_hours (row (H s) s.args.l.now k)) s.pre.1.0.is),
+            ap length (lent e) ∙ profile_length (passed e) ∙ sym (ap (λ (k : ℕ). span_hours (row (H s) s.args.l.now k)) s.requires.1.0.is),
             ap (λ (v : List ℕ). within most_megawatts v) (lent e) ∙ (passed e).most,
           ),
           (
             ap (λ (v : List ℕ). short (H s) s.args.l.now s.args.n v) (is-granted e)
-                ∙ ap (λ (k : ℕ). short (H s) s.args.l.now k (G s)) s.pre.1.0.is
+                ∙ ap (λ (k : ℕ). short (H s) s.args.l.now k (G s)) s.requires.1.0.is
                 ∙ enough e.before.before,
-            s.pre.1.1.1,
+            s.requires.1.1.1,
           ),
         ),
       ),
@@ -129,6 +129,6 @@ offer_uses_spec =
     let e = c.before.before.before.before in
     let s = T e.before in
     and_goes _ _ _ (yes-on e.before.before)
-    (c.exceeds-confirming.ensures
+    (c.exceeds_confirming.ensures
     ∙ ap (λ (v : List ℕ). exceeds_at (H s) s.args.l.now s.args.n s.args.postings.now (λ x h. use_confirming (H s) s.args.l.now s.args.n v x h)) (is-granted e)
     ∙ at s (G s))))

@@ -31,13 +31,13 @@ unfolding over_other
 other_status_spec =
     tie.close
     (tie.spec
-    (λ c κs. (c.before.before.before.before.requires.0.placed, hit _ _ _ (eq-eqb _ _ c.before.if1.true) ∙ c.before.before.before.before.requires.1))
+    (λ c κs. (c.requires.0.placed, hit _ _ _ (eq-eqb _ _ c.if-a-eq-DISPLACED.true) ∙ c.requires.1))
     (λ c. search rules)
-    (λ c. other-by c.before.before.before.before.before.before.before.requires.0 (hit_by _ _ _ _ (eq-eqb _ _ c.before.before.before.before.if1.true) c.before.before.displace.ensures))
-    (λ c κs. c.before.before.before.before.requires.0.placed)
-    (λ c κs. (c.before.before.before.before.before.before.before.requires.0.placed, skip _ _ _ _ (ne_eqb _ _ c.before.before.before.before.if1.false) (hit _ _ _ (sym c.before.before.annuls_confirmed_lem.ensures ∙ c.before.if2.true)) ∙ c.before.before.before.before.before.before.before.requires.1))
+    (λ c. other-by c.requires.0 (hit_by _ _ _ _ (eq-eqb _ _ c.if-a-eq-DISPLACED.true) c.displace.ensures))
+    (λ c κs. c.requires.0.placed)
+    (λ c κs. (c.requires.0.placed, skip _ _ _ _ (ne_eqb _ _ c.if-a-eq-DISPLACED.false) (hit _ _ _ (sym c.annuls_confirmed.ensures ∙ c.if-annuls_confirmed.true)) ∙ c.requires.1))
     (λ c. search rules)
-    (λ c. other-by c.before.before.before.before.before.before.before.before.before.before.requires.0 (skip _ _ _ _ (ne_eqb _ _ c.before.before.before.before.before.before.before.if1.false) (hit_by _ _ _ _ (sym c.before.before.before.before.before.annuls_confirmed_lem.ensures ∙ c.before.before.before.before.if2.true) c.before.before.annul.ensures)))
-    (λ c κs. let p = c.before.before.before.before.before.before.before.requires.0.placed in (sized p, (in_rows p, lit< tt)))
+    (λ c. other-by c.requires.0 (skip _ _ _ _ (ne_eqb _ _ c.if-a-eq-DISPLACED.false) (hit_by _ _ _ _ (sym c.annuls_confirmed.ensures ∙ c.if-annuls_confirmed.true) c.annul.ensures)))
+    (λ c κs. let p = c.requires.0.placed in (sized p, (in_rows p, lit< tt)))
     (λ c. search rules)
-    (λ c. other-by c.before.before.before.before.before.before.before.before.before.before.requires.0 (skip _ _ _ _ (ne_eqb _ _ c.before.before.before.before.before.before.before.if1.false) (skip _ _ _ _ (sym c.before.before.before.before.before.annuls_confirmed_lem.ensures ∙ c.before.before.before.before.if2.false) c.before.before.set_word.ensures))))
+    (λ c. other-by c.requires.0 (skip _ _ _ _ (ne_eqb _ _ c.if-a-eq-DISPLACED.false) (skip _ _ _ _ (sym c.annuls_confirmed.ensures ∙ c.if-annuls_confirmed.false) c.set_word.ensures))))

@@ -17,28 +17,28 @@ use Rattle.checks.proofs.Profiles.{profile_lent}
 use Rattle.seller.proofs.status.over_offer.Statement.{statement}
 use Rattle.seller.proofs.status.over_offer.Tie as tie
 
-abbrev S : tie.Else2 → tie.Start
+abbrev S : tie.Else-not-comes → tie.Start
 S c = c.before.before.before.before.before.before
 
-passed : (c : tie.Else2) → ProfilePassed (S c).args.words.now (S c).args.a (span_hours (row (S c).args.hours (S c).args.l.now (S c).args.n))
-passed c = (S c).requires.1.profile (sym c.before.comes.ensures ∙ not-false _ c.if2.false)
+passed : (c : tie.Else-not-comes) → ProfilePassed (S c).args.words.now (S c).args.a (span_hours (row (S c).args.hours (S c).args.l.now (S c).args.n))
+passed c = (S c).requires.1.profile (sym c.comes.ensures ∙ c.if-not-comes.false)
 
-is-granted : (c : tie.Else2) → take ((S c).args.a.offset + (S c).args.a.length - (S c).args.a.offset) (drop (S c).args.a.offset (S c).args.words.now) ≡ granted_after (S c).args.hours (S c).args.words.now (S c).args.a (row (S c).args.hours (S c).args.l.now (S c).args.n)
-is-granted c = profile_lent (S c).args.words.now (S c).args.a (passed c).ranges ∙ sym (granted_comes (S c).args.hours (S c).args.words.now (S c).args.a (row (S c).args.hours (S c).args.l.now (S c).args.n) (sym c.before.comes.ensures ∙ not-false _ c.if2.false))
+is-granted : (c : tie.Else-not-comes) → take ((S c).args.a.offset + (S c).args.a.length - (S c).args.a.offset) (drop (S c).args.a.offset (S c).args.words.now) ≡ granted_after (S c).args.hours (S c).args.words.now (S c).args.a (row (S c).args.hours (S c).args.l.now (S c).args.n)
+is-granted c = profile_lent (S c).args.words.now (S c).args.a (passed c).fits ∙ sym (granted_comes (S c).args.hours (S c).args.words.now (S c).args.a (row (S c).args.hours (S c).args.l.now (S c).args.n) (sym c.comes.ensures ∙ c.if-not-comes.false))
 
-is-long : (c : tie.Else2) → length (take ((S c).args.a.offset + (S c).args.a.length - (S c).args.a.offset) (drop (S c).args.a.offset (S c).args.words.now)) ≡ span_hours (row (S c).args.hours (S c).args.l.now (S c).args.n)
-is-long c = ap length (profile_lent (S c).args.words.now (S c).args.a (passed c).ranges) ∙ profile_length (passed c)
+is-long : (c : tie.Else-not-comes) → length (take ((S c).args.a.offset + (S c).args.a.length - (S c).args.a.offset) (drop (S c).args.a.offset (S c).args.words.now)) ≡ span_hours (row (S c).args.hours (S c).args.l.now (S c).args.n)
+is-long c = ap length (profile_lent (S c).args.words.now (S c).args.a (passed c).fits) ∙ profile_length (passed c)
 
 pub over_offer_spec : {M : Type 1} → statement M
 unfolding over_offer
 over_offer_spec =
     tie.close
     (tie.spec
-    (λ c κs. c.before.before.requires.0)
-    (λ c. and_stops _ _ (sym c.before.goes_on.ensures ∙ not-true _ c.if1.true))
+    (λ c κs. c.requires.0)
+    (λ c. and_stops _ _ (sym c.goes_on.ensures ∙ c.if-not-goes_on.true))
     (λ c κs. search rules)
-    (λ c κs. c.before.before.before.before.before.before.requires.0)
-    (λ c. let s = c.before.before.before.before.before.before.before in and_goes _ _ _ (sym c.before.before.before.before.goes_on.ensures ∙ not-false _ c.before.before.before.if1.false) (c.over-confirming-own.ensures ∙ ap (λ (v : List ℕ). over_confirming s.args.hours s.args.l.now s.args.n v) (sym (granted_stays s.args.hours s.args.words.now s.args.a (row s.args.hours s.args.l.now s.args.n) (sym c.before.before.comes.ensures ∙ not-true _ c.before.if2.true)))))
+    (λ c κs. c.requires.0)
+    (λ c. and_goes _ _ _ (sym c.goes_on.ensures ∙ c.if-not-goes_on.false) (c.over_confirming_own.ensures ∙ ap (λ (v : List ℕ). over_confirming c.args.hours c.args.l.now c.args.n v) (sym (granted_stays c.args.hours c.args.words.now c.args.a (row c.args.hours c.args.l.now c.args.n) (sym c.comes.ensures ∙ c.if-not-comes.true)))))
     (λ c. search rules)
     (λ c. search rules)
     (λ c. search rules)
@@ -47,4 +47,4 @@ over_offer_spec =
     (λ c. search rules)
     (λ c. omega (arith, (passed c.before.before).fits))
     (λ c κs. ((S c.before.before.before).requires.0, is-long c.before.before.before))
-    (λ c. let s = S c.before.before.before.before in and_goes _ _ _ (sym c.before.before.before.before.before.before.before.goes_on.ensures ∙ not-false _ c.before.before.before.before.before.before.if1.false) (c.over_confirming_lem.ensures ∙ ap (λ (v : List ℕ). over_confirming s.args.hours s.args.l.now s.args.n v) (is-granted c.before.before.before.before))))
+    (λ c. let s = S c.before.before.before.before in and_goes _ _ _ (sym c.goes_on.ensures ∙ c.if-not-goes_on.false) (c.over_confirming.ensures ∙ ap (λ (v : List ℕ). over_confirming s.args.hours s.args.l.now s.args.n v) (is-granted c.before.before.before.before))))

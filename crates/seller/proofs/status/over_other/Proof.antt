@@ -13,8 +13,8 @@ over_other_spec =
     tie.close
     (tie.spec
     (λ c κs. search rules)
-    (λ c. hit_by _ _ _ _ (eq-eqb _ _ c.before.if1.true) c.over_displacing_lem.ensures)
+    (λ c. hit_by _ _ _ _ (eq-eqb _ _ c.if-a-eq-DISPLACED.true) c.over_displacing.ensures)
     (λ c κs. search rules)
     (λ c κs. search rules)
-    (λ c. skip _ _ _ _ (ne_eqb _ _ c.before.before.before.if1.false) (hit_by _ _ _ _ (sym c.before.before.annuls_confirmed_lem.ensures ∙ c.before.if2.true) c.over_annulling_lem.ensures))
-    (λ c. skip _ _ _ _ (ne_eqb _ _ c.before.before.if1.false) (skip _ _ _ _ (sym c.before.annuls_confirmed_lem.ensures ∙ c.if2.false) refl)))
+    (λ c. skip _ _ _ _ (ne_eqb _ _ c.if-a-eq-DISPLACED.false) (hit_by _ _ _ _ (sym c.annuls_confirmed.ensures ∙ c.if-annuls_confirmed.true) c.over_annulling.ensures))
+    (λ c. skip _ _ _ _ (ne_eqb _ _ c.if-a-eq-DISPLACED.false) (skip _ _ _ _ (sym c.annuls_confirmed.ensures ∙ c.if-annuls_confirmed.false) refl)))

@@ -11,7 +11,7 @@ seller_over_spec =
     (tie.spec
     (λ c κs. search rules)
     (λ c κs. search rules)
-    (λ c κs. let s = c.before.before.before.before.before in ((passed_named s.requires.0 s.args.words.now s.args.a s.requires.1 c.before.before.named.ensures).placed, passed_suits s.requires.0 s.args.words.now s.args.a s.requires.1 c.before.before.named.ensures (sym c.before.offers.ensures ∙ c.if1.true)))
-    (λ c. let s = c.before.before.before.before.before.before in c.over-offer.ensures ∙ over_offers s.requires.0 s.args.words.now s.args.a s.requires.1 c.before.before.before.named.ensures (sym c.before.before.offers.ensures ∙ c.before.if1.true))
-    (λ c κs. let s = c.before.before.before.before.before in (passed_named s.requires.0 s.args.words.now s.args.a s.requires.1 c.before.before.named.ensures).placed)
-    (λ c. let s = c.before.before.before.before.before.before in c.over-other.ensures ∙ over_others s.requires.0 s.args.words.now s.args.a s.requires.1 c.before.before.before.named.ensures (sym c.before.before.offers.ensures ∙ c.before.if1.false)))
+    (λ c κs. ((passed_named c.requires.0 c.args.words.now c.args.a c.requires.1 c.named-row.ensures).placed, passed_suits c.requires.0 c.args.words.now c.args.a c.requires.1 c.named-row.ensures (sym c.offers.ensures ∙ c.if-offers.true)))
+    (λ c. c.over_offer.ensures ∙ over_offers c.requires.0 c.args.words.now c.args.a c.requires.1 c.named-row.ensures (sym c.offers.ensures ∙ c.if-offers.true))
+    (λ c κs. (passed_named c.requires.0 c.args.words.now c.args.a c.requires.1 c.named-row.ensures).placed)
+    (λ c. c.over_other.ensures ∙ over_others c.requires.0 c.args.words.now c.args.a c.requires.1 c.named-row.ensures (sym c.offers.ensures ∙ c.if-offers.false)))

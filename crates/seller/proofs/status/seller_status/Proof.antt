@@ -11,9 +11,9 @@ seller_status_spec =
     (tie.spec
     (λ c κs. search rules)
     (λ c κs. search rules)
-    (λ c κs. let s = c.before.before.before.before.before.before in offering_at s.requires.0 s.args.words.now s.args.a s.requires.1.0 c.before.before.before.named.ensures (sym c.before.before.offers.ensures ∙ c.before.if1.true) s.requires.1.1)
+    (λ c κs. offering_at c.requires.0 c.args.words.now c.args.a c.requires.1.0 c.named-row.ensures (sym c.offers.ensures ∙ c.if-offers.true) c.requires.1.1)
     (λ c. search rules)
-    (λ c. let s = c.before.before.before.before.before.before.before.before.before in c.before.before.offer.ensures ∙ after_offer s.args.hours s.args.l.now s.args.words.now s.args.a (sym c.before.before.before.before.before.offers.ensures ∙ c.before.before.before.before.if1.true))
-    (λ c κs. let s = c.before.before.before.before.before.before in (passed_named s.requires.0 s.args.words.now s.args.a s.requires.1.0 c.before.before.before.named.ensures, over_others s.requires.0 s.args.words.now s.args.a s.requires.1.0 c.before.before.before.named.ensures (sym c.before.before.offers.ensures ∙ c.before.if1.false) ∙ s.requires.1.1))
+    (λ c. c.offer.ensures ∙ after_offer c.args.hours c.args.l.now c.args.words.now c.args.a (sym c.offers.ensures ∙ c.if-offers.true))
+    (λ c κs. (passed_named c.requires.0 c.args.words.now c.args.a c.requires.1.0 c.named-row.ensures, over_others c.requires.0 c.args.words.now c.args.a c.requires.1.0 c.named-row.ensures (sym c.offers.ensures ∙ c.if-offers.false) ∙ c.requires.1.1))
     (λ c. search rules)
-    (λ c. let s = c.before.before.before.before.before.before.before.before.before in c.before.before.other-status.ensures ∙ after_other s.args.hours s.args.l.now s.args.words.now s.args.a (sym c.before.before.before.before.before.offers.ensures ∙ c.before.before.before.before.if1.false)))
+    (λ c. c.other_status.ensures ∙ after_other c.args.hours c.args.l.now c.args.words.now c.args.a (sym c.offers.ensures ∙ c.if-offers.false)))
