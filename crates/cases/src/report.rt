@@ -1,37 +1,37 @@
 // What is printed.
-use libc::STDOUT_FILENO;
+use std::io;
 
-pub fn print(text: &[u8]) {
-    io::write_all(STDOUT_FILENO, text);
+pub fn print(rt: &impl Print, text: &[u8]) -> io::Result<()> {
+    rt.write_all(text)
 }
 
-pub fn print_number(number: u32) {
-    io::print_decimal(STDOUT_FILENO, number as u64);
+pub fn print_number(rt: &impl Print, number: u32) -> io::Result<()> {
+    print!(rt; "{number}")
 }
 
 // A line of numbers after their heading.
-pub fn print_numbers(heading: &[u8], numbers: &[u32]) {
-    print(heading);
-    for k in 0..numbers.len() {
-        print(b" ");
-        print_number(numbers[k]);
+pub fn print_numbers(rt: &impl Print, heading: &[u8], numbers: &[u32]) -> io::Result<()> {
+    print(rt, heading)?;
+    for number in numbers {
+        print(rt, b" ")?;
+        print_number(rt, *number)?;
     }
-    print(b"\n");
+    print(rt, b"\n")
 }
 
 // A line: what, and how many.
-pub fn print_count(what: &[u8], count: u32) {
-    print(what);
-    print(b" ");
-    print_number(count);
-    print(b"\n");
+pub fn print_count(rt: &impl Print, what: &[u8], count: u32) -> io::Result<()> {
+    print(rt, what)?;
+    print(rt, b" ")?;
+    print_number(rt, count)?;
+    print(rt, b"\n")
 }
 
 // Where a failure stands.
-pub fn print_place(name: &[u8], line: &[u8]) {
-    print(b"fails: ");
-    print(name);
-    print(b"\n  ");
-    print(line);
-    print(b"\n");
+pub fn print_place(rt: &impl Print, name: &[u8], line: &[u8]) -> io::Result<()> {
+    print(rt, b"fails: ")?;
+    print(rt, name)?;
+    print(rt, b"\n  ")?;
+    print(rt, line)?;
+    print(rt, b"\n")
 }

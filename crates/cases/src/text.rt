@@ -11,14 +11,12 @@ const WORD_END: u64 = 4294967296;
 pub fn find(text: &[u8], byte: u8) -> usize
     ensures { result ≤ length text.now }
 {
-    let mut k = 0;
-    while k < text.len() {
-        if text[k] == byte {
+    for (k, b) in text.iter().enumerate() {
+        if *b == byte {
             return k;
         }
-        k += 1;
     }
-    k
+    text.len()
 }
 
 // What stands before the first such byte.
@@ -107,8 +105,8 @@ impl Numbers {
 // The decimal numbers of a text, between spaces.
 pub fn numbers_in(text: &[u8]) -> Numbers {
     let mut n = Numbers::none();
-    for k in 0..text.len() {
-        n = n.with_byte(text[k]);
+    for byte in text {
+        n = n.with_byte(*byte);
     }
     n.ended()
 }

@@ -1,10 +1,11 @@
-// A day at the desk: the fourteen actions of document 01, carried out one after the other, on two paths that were
-// posted before.
+// A day at the desk: fourteen actions, carried out one after the other, on two paths that were posted before.
 // A line for each: action, number, reference, status before, status after, MW-hours moved.
+#![tactic(auto)]
+
 use layout::numbers::*;
 use ledger::numbering::{CUSTOMER_STATUS, POST, SELLER_STATUS, SUBMIT};
-use libc::STDOUT_FILENO;
 use rules::{Action, Answer};
+use std::io;
 
 // The ledger: its rows, hours, provider, confirmation window in seconds and base hour.
 const DESK_ROWS: usize = 8;
@@ -223,38 +224,45 @@ fn day() -> [Action; ACTIONS] {
     ]
 }
 
-fn print_next(number: u32) {
-    io::write_all(STDOUT_FILENO, b" ");
-    io::print_decimal(STDOUT_FILENO, number as u64);
+fn print_next(rt: &impl Print, number: u32) -> io::Result<()> {
+    print!(rt; " {number}")
 }
 
-fn print_line(action: usize, answer: Answer) {
-    io::print_decimal(STDOUT_FILENO, action as u64);
-    print_next(answer.number);
-    print_next(answer.reference);
-    print_next(answer.before);
-    print_next(answer.after);
-    print_next(answer.moved);
-    io::write_all(STDOUT_FILENO, b"\n");
+fn print_line(rt: &impl Print, action: usize, answer: Answer) -> io::Result<()> {
+    print!(rt; "{action}")?;
+    print_next(rt, answer.number)?;
+    print_next(rt, answer.reference)?;
+    print_next(rt, answer.before)?;
+    print_next(rt, answer.after)?;
+    print_next(rt, answer.moved)?;
+    println!(rt)
 }
 
 // Posts a path before the day. It has no line, unless it is refused: then one, as action 0.
-fn post_before(l: &mut [u32], postings: &mut [u32], path: u32) {
+fn post_before(rt: &impl Print, l: &mut [u32], postings: &mut [u32], path: u32) -> io::Result<()> {
     let answer = ledger::act(l, postings, &POSTED_WORDS, post(path));
     if answer.number != 0 {
-        print_line(0, answer);
+        print_line(rt, 0, answer)?;
     }
+    Ok(())
 }
 
 // Carries each action out, and prints its line.
-fn carry_out(l: &mut [u32], postings: &mut [u32], words: &[u32], actions: [Action; ACTIONS]) {
+fn carry_out(
+    rt: &impl Print,
+    l: &mut [u32],
+    postings: &mut [u32],
+    words: &[u32],
+    actions: [Action; ACTIONS],
+) -> io::Result<()> {
     for i in 0..ACTIONS {
         let answer = ledger::act(l, postings, words, actions[i]);
-        print_line(i + 1, answer);
+        print_line(rt, i + 1, answer)?;
     }
+    Ok(())
 }
 
-fn main() {
+fn main(rt: HostRuntime) -> io::Result<()> {
     let mut ledger = [0u32; LEDGER_WORDS];
     layout::create::create(
         &mut ledger,
@@ -265,7 +273,7 @@ fn main() {
         DESK_BASE,
     );
     let mut postings = [0u32; POSTINGS_WORDS];
-    post_before(&mut ledger, &mut postings, FIRST_PATH);
-    post_before(&mut ledger, &mut postings, SECOND_PATH);
-    carry_out(&mut ledger, &mut postings, &PROFILE_WORDS, day());
+    post_before(&rt, &mut ledger, &mut postings, FIRST_PATH)?;
+    post_before(&rt, &mut ledger, &mut postings, SECOND_PATH)?;
+    carry_out(&rt, &mut ledger, &mut postings, &PROFILE_WORDS, day())
 }

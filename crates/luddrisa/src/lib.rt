@@ -1,4 +1,6 @@
 // The ledger for others to link: the calls offered to the outside.
+#![tactic(auto)]
+
 ghost use Rattle.std.specs.Prelude.{◌≡◌, length};
 ghost use Rattle.rules.specs.Pick.{pick};
 ghost use Rattle.rules.specs.Create.{create_number, created};
