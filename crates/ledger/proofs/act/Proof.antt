@@ -6,28 +6,27 @@ use borrow.Author.Rules.{rules}
 use Rattle.ledger.proofs.act.Statement.{statement}
 use Rattle.ledger.proofs.act.Tie as tie
 
-sound-both-requires : tie.Need-sound-both-requires
+sound-both-requires : tie.Need-sound_both-sound-requires
 sound-both-requires c κs = search rules
 
 step-requires : tie.Need-step-requires
 step-requires c κs = search rules
 
-same_length : tie.Need-same-length
+same_length : tie.Need-shape_of-l
 same_length c = search rules
 
-same-length-2 : tie.Need-same-length-2
+same-length-2 : tie.Need-shape_of-postings
 same-length-2 c = search rules
 
 returns : tie.Need-returns
 unfolding outcome
 returns c =
-    let s = c.before.before.before.before.before.before.before.before.before.before.before.before.before in
-    let e = c.before.before.before.before.before.before.before.sound-both.ensures in
-    let o = c.before.before.before.before.step.ensures in (
-      o.0 ∙ ap (λ (b : Bool). (step b s.args.l.now s.args.postings.now s.args.words.now s.args.a).answer) e,
+    let e = c.sound_both-sound.ensures in
+    let o = c.step.ensures in (
+      o.0 ∙ ap (λ (b : Bool). (step b c.args.l.now c.args.postings.now c.args.words.now c.args.a).answer) e,
       (
-        o.1.0 ∙ ap (λ (b : Bool). (step b s.args.l.now s.args.postings.now s.args.words.now s.args.a).ledger) e,
-        o.1.1 ∙ ap (λ (b : Bool). (step b s.args.l.now s.args.postings.now s.args.words.now s.args.a).postings) e,
+        o.1.0 ∙ ap (λ (b : Bool). (step b c.args.l.now c.args.postings.now c.args.words.now c.args.a).ledger) e,
+        o.1.1 ∙ ap (λ (b : Bool). (step b c.args.l.now c.args.postings.now c.args.words.now c.args.a).postings) e,
       ),
     )
 

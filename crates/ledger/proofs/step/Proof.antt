@@ -4,40 +4,36 @@ use borrow.Author.Rules.{rules}
 use Rattle.ledger.proofs.step.Statement.{statement}
 use Rattle.ledger.proofs.step.Tie as tie
 
-number-requires : tie.Need-number-requires
+number-requires : tie.Need-number-n-requires
 number-requires c κs = search rules
 
 refused-requires : tie.Need-refused-requires
 refused-requires c κs = search rules
 
-same_length : tie.Need-same-length
+same_length : tie.Need-shape_of-l-then-n-ne0
 same_length c = search rules
 
-same-length-2 : tie.Need-same-length-2
+same-length-2 : tie.Need-shape_of-postings-then-n-ne0
 same-length-2 c = search rules
 
-returns : tie.Need-returns
+returns : tie.Need-returns-then-n-ne0
 returns c =
-    let s = c.before.before.before.before.before.before.before.before in
-    step_refuses s.args.sound s.args.l.now s.args.postings.now s.args.words.now s.args.a c.before.before.number.ensures c.before.if1.true c.refused.ensures
+    step_refuses c.args.sound c.args.l.now c.args.postings.now c.args.words.now c.args.a c.number-n.ensures c.if-n-ne0.true c.refused.ensures
 
 accept-requires : tie.Need-accept-requires
 accept-requires c κs =
-    let s = c.before.before.before.before.before.before.before.before.before in
-    accept_asks s.args.sound s.args.l.now s.args.postings.now s.args.words.now s.args.a c.before.before.before.number.ensures c.before.before.if1.false s.requires
+    accept_asks c.args.sound c.args.l.now c.args.postings.now c.args.words.now c.args.a c.number-n.ensures c.if-n-ne0.false c.requires
 
-same-length-3 : tie.Need-same-length-3
+same-length-3 : tie.Need-shape_of-l
 same-length-3 c = search rules
 
-same-length-4 : tie.Need-same-length-4
+same-length-4 : tie.Need-shape_of-postings
 same-length-4 c = search rules
 
-returns-2 : tie.Need-returns-2
+returns-2 : tie.Need-returns
 returns-2 c =
-    let s = c.before.before.before.before.before.before.before.before.before.before.before.before.before.before in
-    let b = c.before.before.before.before in
-    let e = b.accept.ensures in
-    step_accepts s.args.sound s.args.l.now s.args.postings.now s.args.words.now s.args.a b.before.before.before.before.number.ensures b.before.before.before.if1.false e.0 e.1.0 e.1.1
+    let e = c.accept.ensures in
+    step_accepts c.args.sound c.args.l.now c.args.postings.now c.args.words.now c.args.a c.number-n.ensures c.if-n-ne0.false e.0 e.1.0 e.1.1
 
 pub step_spec : {M : Type 1} → statement M
 step_spec =

@@ -8,6 +8,6 @@ pub held_at_spec : {M : Type 1} → statement M
 held_at_spec =
     tie.close
     (tie.spec
-    (λ c. simp (ne_eqb _ _ c.if1.true))
+    (λ c. simp (ne_eqb _ _ c.if-status-ne-CONFIRMED.true))
     (λ c κs. search rules)
-    (λ c. simp (eq-eqb _ _ c.before.if1.false) c.span-total.ensures))
+    (λ c. simp (eq-eqb _ _ c.if-status-ne-CONFIRMED.false) c.span_total.ensures))

@@ -5,17 +5,17 @@ use borrow.Author.Rules.{rules}
 use Rattle.ledger.proofs.answering.moved_by.Statement.{statement}
 use Rattle.ledger.proofs.answering.moved_by.Tie as tie
 
-profile-total-requires : tie.Need-profile-total-requires
-profile-total-requires c κs = c.before.before.before.requires.1.1 c.if1.true
+profile-total-requires : tie.Need-profile_total-requires
+profile-total-requires c κs = c.requires.1.1 c.if-kind-eq-REDUCE.true
 
-returns : tie.Need-returns
+returns : tie.Need-returns-then-kind-eq-REDUCE
 unfolding moved_by
 returns c = search results depth 16
 
 moved-requires : tie.Need-moved-requires
 moved-requires c κs = search rules
 
-returns-2 : tie.Need-returns-2
+returns-2 : tie.Need-returns
 unfolding moved_by
 returns-2 c = search results depth 16
 

@@ -5,32 +5,32 @@ use borrow.Author.Rules.{rules}
 use Rattle.ledger.proofs.answering.profile_total.Statement.{statement}
 use Rattle.ledger.proofs.answering.profile_total.Tie as tie
 
-cast-from : tie.Need-overflow-cast-from
+cast-from : tie.Need-overflow_cast-from
 cast-from c = search rules
 
-cast-count : tie.Need-overflow-cast-count
+cast-count : tie.Need-overflow_cast-count
 cast-count c = search rules
 
-add_total : tie.Need-overflow-add-total
+add_total : tie.Need-overflow_add-from
 add_total c = search rules
 
-mul-total : tie.Need-overflow-mul-total
+mul-total : tie.Need-offset_bounds-words-from
 mul-total c = search rules
 
-sub-total : tie.Need-overflow-sub-total
+sub-total : tie.Need-slice_bounds-total-count
 sub-total c = search rules
 
-part-total-start : tie.Need-slice-bounds-total-start
+part-total-start : tie.Need-slice_bounds-total-start
 part-total-start c = search rules
 
-part-total-end : tie.Need-slice-bounds-total-end
+part-total-end : tie.Need-slice_bounds-total-end
 part-total-end c = search rules
 
 total-requires : tie.Need-total-requires
 total-requires c κs = search rules
 
-cast-result : tie.Need-overflow-cast-result
-cast-result c = let s = c.before.before.before.before.before in let h = profile_small s.requires in let e = lent_total s.requires c.total.ensures in omega (arith, h, e)
+cast-result : tie.Need-overflow_cast-result
+cast-result c = let h = profile_small c.requires in let e = lent_total c.requires c.total.ensures in omega (arith, h, e)
 
 returns : tie.Need-returns
 returns c = search lent_total

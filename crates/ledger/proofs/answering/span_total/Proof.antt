@@ -6,11 +6,11 @@ use borrow.Author.Rules.{rules}
 use Rattle.ledger.proofs.answering.span_total.Statement.{statement}
 use Rattle.ledger.proofs.answering.span_total.Tie as tie
 
-hours-total-requires : tie.Need-hours-total-requires
+hours-total-requires : tie.Need-hours_total-requires
 hours-total-requires c κs = search (rules, placed_at)
 
-cast-result : tie.Need-overflow-cast-result
-cast-result c = let s = c.before.before in let h = span_small s.requires.0 s.requires.1.0 _ s.requires.1.1 in omega (arith, h)
+cast-result : tie.Need-overflow_cast-result
+cast-result c = let h = span_small c.requires.0 c.requires.1.0 _ c.requires.1.1 in omega (arith, h)
 
 returns : tie.Need-returns
 returns c = search rules

@@ -6,59 +6,59 @@ use borrow.Author.Rules.{rules}
 use Rattle.ledger.proofs.numbering.kind_number.Statement.{statement}
 use Rattle.ledger.proofs.numbering.kind_number.Tie as tie
 
-submit-number-requires : tie.Need-submit-number-requires
+submit-number-requires : tie.Need-submit_number-requires
 submit-number-requires c κs = search rules
 
-returns : tie.Need-returns
+returns : tie.Need-returns-then-kind-eq-SUBMIT
 unfolding kind_number
 returns c = search results depth 16
 
-seller-number-requires : tie.Need-seller-number-requires
+seller-number-requires : tie.Need-seller_number-requires
 seller-number-requires c κs = search rules
 
-returns-2 : tie.Need-returns-2
+returns-2 : tie.Need-returns-then-kind-eq-SELLER_STATUS
 unfolding kind_number
 returns-2 c = search results depth 16
 
-customer-number-requires : tie.Need-customer-number-requires
+customer-number-requires : tie.Need-customer_number-requires
 customer-number-requires c κs = search rules
 
-returns-3 : tie.Need-returns-3
+returns-3 : tie.Need-returns-then-kind-eq-CUSTOMER_STATUS
 unfolding kind_number
 returns-3 c = search results depth 16
 
-approve-number-requires : tie.Need-approve-number-requires
+approve-number-requires : tie.Need-approve_number-requires
 approve-number-requires c κs = search rules
 
-returns-4 : tie.Need-returns-4
+returns-4 : tie.Need-returns-then-kind-eq-APPROVE
 unfolding kind_number
 returns-4 c = search results depth 16
 
-reduce-number-requires : tie.Need-reduce-number-requires
+reduce-number-requires : tie.Need-reduce_number-requires
 reduce-number-requires c κs = search rules
 
-returns-5 : tie.Need-returns-5
+returns-5 : tie.Need-returns-then-kind-eq-REDUCE
 unfolding kind_number
 returns-5 c = search results depth 16
 
-lapse-number-requires : tie.Need-lapse-number-requires
+lapse-number-requires : tie.Need-lapse_number-requires
 lapse-number-requires c κs = search rules
 
-returns-6 : tie.Need-returns-6
+returns-6 : tie.Need-returns-then-kind-eq-LAPSE
 unfolding kind_number
 returns-6 c = search results depth 16
 
-clock-number-requires : tie.Need-clock-number-requires
+clock-number-requires : tie.Need-clock_number-requires
 clock-number-requires c κs = search kinds
 
-returns-7 : tie.Need-returns-7
+returns-7 : tie.Need-returns-then-kind-eq-CLOCK
 unfolding kind_number
 returns-7 c = search results depth 16
 
-post-number-requires : tie.Need-post-number-requires
+post-number-requires : tie.Need-post_number-requires
 post-number-requires c κs = search kinds
 
-returns-8 : tie.Need-returns-8
+returns-8 : tie.Need-returns
 unfolding kind_number
 returns-8 c = search results depth 16
 

@@ -11,37 +11,33 @@ use Rattle.ledger.proofs.numbering.number.Statement.{statement}
 use Rattle.ledger.proofs.numbering.number.Tie as tie
 
 -- no check of every action applied: the ledger and the postings are sound
-abbrev S : tie.After-shared-slice-known4 → tie.Start
-S c = c.before.before.before.before.before.before
+known : (c : tie.Else-n-ne0) → SoundAt c.args.l.now (rows c.args.l.now) (hours c.args.l.now)
+known c = none_sound c.args.l.now c.args.postings.now c.args.a c.common_number-n.ensures c.if-n-ne0.false c.requires
 
-known : (c : tie.After-shared-slice-known4) → SoundAt (S c).args.l.now (rows (S c).args.l.now) (hours (S c).args.l.now)
-known c = none_sound (S c).args.l.now (S c).args.postings.now (S c).args.a c.before.before.common-number.ensures c.before.if1.false (S c).requires
-
-common-number-requires : tie.Need-common-number-requires
+common-number-requires : tie.Need-common_number-n-requires
 common-number-requires c κs = search rules
 
-returns : tie.Need-returns
+returns : tie.Need-returns-then-n-ne0
 unfolding number
 returns c = search groups depth 16
 
-shared-slice-read-rows : tie.Need-shared-slice-read-rows
-shared-slice-read-rows c = omega (arith, head_fits (known c))
+shared-slice-read-rows : tie.Need-bounds-l-0
+shared-slice-read-rows c = omega (arith, head_fits (known c.before))
 
-cast-rows : tie.Need-overflow-cast-rows
-cast-rows c = omega (arith, (known c).sound.head)
+cast-rows : tie.Need-overflow_cast-rows
+cast-rows c = omega (arith, (known c.before).sound.head)
 
-shared-slice-read-hours : tie.Need-shared-slice-read-hours
-shared-slice-read-hours c = omega (arith, head_fits (known c.before))
+shared-slice-read-hours : tie.Need-bounds-l-1
+shared-slice-read-hours c = omega (arith, head_fits (known c.before.before))
 
-cast-hours : tie.Need-overflow-cast-hours
-cast-hours c = omega (arith, (known c.before).sound.head)
+cast-hours : tie.Need-overflow_cast-hours
+cast-hours c = omega (arith, (known c.before.before).sound.head)
 
-sound-number-requires : tie.Need-sound-number-requires
+sound-number-requires : tie.Need-sound_number-requires
 sound-number-requires c κs =
-    let k = c.before in
-    (known k, none_posted (S k).args.l.now (S k).args.postings.now (S k).args.a k.before.before.common-number.ensures k.before.if1.false (S k).requires)
+    (known c.before.before, none_posted c.args.l.now c.args.postings.now c.args.a c.common_number-n.ensures c.if-n-ne0.false c.requires)
 
-returns-2 : tie.Need-returns-2
+returns-2 : tie.Need-returns
 unfolding number
 returns-2 c = search groups depth 16
 

@@ -7,30 +7,30 @@ use borrow.Author.Rules.{rules}
 use Rattle.ledger.proofs.numbering.sound_number.Statement.{statement}
 use Rattle.ledger.proofs.numbering.sound_number.Tie as tie
 
-kind-number-requires : tie.Need-kind-number-requires
+kind-number-requires : tie.Need-kind_number-n-requires
 kind-number-requires c κs = search rules
 
-returns : tie.Need-returns
+returns : tie.Need-returns-then-n-ne0
 unfolding sound_number
 returns c = search groups depth 16
 
-kind-uses-requires : tie.Need-kind-uses-requires
+kind-uses-requires : tie.Need-kind_uses-requires
 kind-uses-requires c κs = search rules
 
-returns-2 : tie.Need-returns-2
+returns-2 : tie.Need-returns-then-kind_uses
 unfolding sound_number use_number
 returns-2 c =
-    passes _ _ _ _ c.before.before.before.kind-number.ensures c.before.before.if1.false
-    (refuses 22 _ _ (hit _ _ _ (sym c.before.kind-uses.ensures ∙ c.if2.true)) (λ z. omega (arith, z)))
+    passes _ _ _ _ c.kind_number-n.ensures c.if-n-ne0.false
+    (refuses 22 _ _ (hit _ _ _ (sym c.kind_uses.ensures ∙ c.if-kind_uses.true)) (λ z. omega (arith, z)))
 
-kind-over-requires : tie.Need-kind-over-requires
+kind-over-requires : tie.Need-kind_over-requires
 kind-over-requires c κs = search rules
 
-returns-3 : tie.Need-returns-3
+returns-3 : tie.Need-returns-then-kind_over
 unfolding sound_number use_number last_number
 returns-3 c = search (groups, choice) depth 16
 
-returns-4 : tie.Need-returns-4
+returns-4 : tie.Need-returns
 unfolding sound_number use_number last_number
 returns-4 c = search (groups, choice) depth 16
 
