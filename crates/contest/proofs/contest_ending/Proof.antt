@@ -10,4 +10,4 @@ contest_ending_spec =
     (tie.spec
     (λ c κs. search rules)
     (λ c κs. search rules)
-    (λ c. ending_says _ _ _ _ _ c.play.ensures c.before.present-term.ensures))
+    (λ c. ending_says _ _ _ _ _ c.play.ensures c.present_term-present.ensures))

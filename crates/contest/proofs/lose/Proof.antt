@@ -7,24 +7,23 @@ use Rattle.contest.proofs.Laws.{in_place, over_lost, displaced_lost}
 use Rattle.contest.proofs.lose.Statement.{statement}
 use Rattle.contest.proofs.lose.Tie as tie
 
-abbrev S : tie.After-row-of → tie.Start
+abbrev S : tie.After-row_of-row → tie.Start
 S x = x.before.before
 
-placed : (x : tie.After-row-of) → Placed (S x).args.l.now (S x).args.rows (S x).args.hours x.row_of.result.0
-placed x = in_place (S x).requires.0 (S x).args.k (S x).requires.1 x.row_of.ensures
+placed : (x : tie.After-row_of-row) → Placed (S x).args.l.now (S x).args.rows (S x).args.hours x.row_of-row.result.0
+placed x = in_place (S x).requires.0 (S x).args.k (S x).requires.1 x.row_of-row.ensures
 
 pub lose_spec : {M : Type 1} → statement M
 lose_spec =
     tie.close
     (tie.spec
     (λ c κs. search rules)
-    (λ c κs. placed c.before)
+    (λ c κs. placed c)
     (λ c κs. search rules)
     (λ c. search rules)
-    (λ c. over_lost _ _ _ c.before.before.before.before.row_of.ensures c.before.before.over_displacing_lem.ensures c.before.if1.true c.refused.ensures)
-    (λ c κs. let x = c.before.before.before.before in ((S x).requires.0, ((placed x).row, lit< tt)))
-    (λ c κs. (placed c.before.before.before.before.before.before, sym c.before.before.before.before.over_displacing_lem.ensures ∙ c.before.before.before.if1.false))
+    (λ c. over_lost _ _ _ c.row_of-row.ensures c.over_displacing.ensures c.if-over_displacing.true c.refused.ensures)
+    (λ c κs. let x = c.before.before in ((S x).requires.0, ((placed x).row, lit< tt)))
+    (λ c κs. (placed c.before.before.before.before, sym c.over_displacing.ensures ∙ c.if-over_displacing.false))
     (λ c. search rules)
     (λ c.
-    let o = c.before.before.before.before.before.before.before in
-    displaced_lost _ _ _ o.before.before.row_of.ensures o.over_displacing_lem.ensures c.before.before.before.before.before.before.if1.false c.before.before.before.before.span-total.ensures c.before.before.displace.ensures))
+    displaced_lost _ _ _ c.row_of-row.ensures c.over_displacing.ensures c.if-over_displacing.false c.span_total-held.ensures c.displace.ensures))

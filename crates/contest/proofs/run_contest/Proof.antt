@@ -12,29 +12,29 @@ use Rattle.contest.proofs.Laws.{refused_leaves, passed_sound, ended_by, lost_lea
 use Rattle.contest.proofs.run_contest.Statement.{statement}
 use Rattle.contest.proofs.run_contest.Tie as tie
 
-abbrev S : tie.After-contest-number → tie.Start
-S x = x.before.before.before.before.before.before
+abbrev S : tie.After-contest_number-n → tie.Start
+S x = x.before.before.before.before.before
 
 -- no check before the moves applied
-passed : (x : tie.Else1)
+passed : (x : tie.Else-n-ne0)
     → SoundAt (S x.before).args.l.now (rows (S x.before).args.l.now) (hours (S x.before).args.l.now)
     × ((1 ≤ (S x.before).args.k.reference) × ((S x.before).args.k.reference ≤ used (S x.before).args.l.now))
 passed x =
     let s = S x.before in
-    passed_sound s.args.l.now s.args.postings.now s.args.k s.args.moves.now s.args.replies.now x.before.contest-number.ensures x.if1.false
+    passed_sound s.args.l.now s.args.postings.now s.args.k s.args.moves.now s.args.replies.now x.contest_number-n.ensures x.if-n-ne0.false
 
 -- the moves have ended so
-abbrev X : tie.After-contest-ending → tie.Else1
-X y = y.before.before.before.before
+abbrev X : tie.After-contest_ending-end → tie.Else-n-ne0
+X y = y.before.before.before
 
-abbrev T : tie.After-contest-ending → tie.Start
+abbrev T : tie.After-contest_ending-end → tie.Start
 T y = S (X y).before
 
-ended_so : (y : tie.After-contest-ending) {v : Ending} → y.contest-ending.result ≡ v
+ended_so : (y : tie.After-contest_ending-end) {v : Ending} → y.contest_ending-end.result ≡ v
     → contested (T y).args.l.now (T y).args.postings.now (T y).args.k (T y).args.moves.now (T y).args.replies.now ≡ ended (T y).args.l.now (T y).args.postings.now (T y).args.k v
 ended_so y told =
     let s = T y in
-    ended_by s.args.l.now s.args.postings.now s.args.k s.args.moves.now s.args.replies.now (X y).before.contest-number.ensures (X y).if1.false y.contest-ending.ensures told
+    ended_by s.args.l.now s.args.postings.now s.args.k s.args.moves.now s.args.replies.now (X y).before.contest_number-n.ensures (X y).if-n-ne0.false y.contest_ending-end.ensures told
 
 pub run_contest_spec : {M : Type 1} → statement M
 run_contest_spec =
@@ -46,29 +46,29 @@ run_contest_spec =
     (λ c.
     let x = c.before.before in
     let s = S x in
-    refused_leaves s.args.l.now s.args.postings.now s.args.k s.args.moves.now s.args.replies.now x.contest-number.ensures c.before.if1.true c.refused.ensures)
+    refused_leaves s.args.l.now s.args.postings.now s.args.k s.args.moves.now s.args.replies.now x.contest_number-n.ensures c.if-n-ne0.true c.refused.ensures)
     (λ c. omega (arith, head_fits (passed c.before).0))
     (λ c. omega (arith, (passed c.before).0.sound.head))
     (λ c. omega (arith, head_fits (passed c.before.before).0))
     (λ c. omega (arith, (passed c.before.before).0.sound.head))
-    (λ c κs. passed c.before.before.before)
+    (λ c κs. passed c.before.before)
     (λ c. search rules)
     (λ c κs. search rules)
     (λ c. search rules)
-    (λ c κs. passed c.before.before.before.before.before.before.before)
+    (λ c κs. passed c.before.before.before.before.before)
     (λ c. search rules)
     (λ c κs. search rules)
     (λ c. search rules)
     (λ c κs. search rules)
     (λ c. search rules)
-    (λ c. let y = c.before.before.before in kept_leaves (T y).args.l.now (T y).args.postings.now (T y).args.k (ended_so y c.before.enum_told.given.1) c.row_kept.ensures)
+    (λ c. let y = c.before.before in kept_leaves (T y).args.l.now (T y).args.postings.now (T y).args.k (ended_so y c.in-Kept.is) c.row_kept.ensures)
     (λ c. search rules)
     (λ c.
-    let y = c.before.before.before.before.before.before in
+    let y = c.before.before.before.before.before in
     let s = T y in
-    let o = c.before.before.lose.ensures in
-    lost_leaves s.args.l.now s.args.postings.now s.args.k s.args.moves.now s.args.replies.now (X y).before.contest-number.ensures (X y).if1.false (ended_so y c.before.before.before.before.enum-told2.given.1) o.0 o.1)
+    let o = c.lose.ensures in
+    lost_leaves s.args.l.now s.args.postings.now s.args.k s.args.moves.now s.args.replies.now (X y).before.contest_number-n.ensures (X y).if-n-ne0.false (ended_so y c.in-Lost.is) o.0 o.1)
     (λ c. search rules)
-    (λ c. let y = c.before.before.before in unfinished_leaves (T y).args.l.now (T y).args.postings.now (T y).args.k (ended_so y c.before.enum-told3.given.1) c.row-kept2.ensures)
+    (λ c. let y = c.before.before in unfinished_leaves (T y).args.l.now (T y).args.postings.now (T y).args.k (ended_so y c.in-Unfinished.is) c.row_kept-in-Unfinished.ensures)
     (λ c. search rules)
-    (λ c. let y = c.before.before.before in bad_leaves (T y).args.l.now (T y).args.postings.now (T y).args.k (ended_so y c.before.enum-told4.given.1) c.refused2.ensures))
+    (λ c. let y = c.before.before in bad_leaves (T y).args.l.now (T y).args.postings.now (T y).args.k (ended_so y c.in-Refused.is) c.refused-in-Refused.ensures))

@@ -3,6 +3,7 @@ use mathlib.Core.Path.{ap}
 use Prim.Native.Nat.{ℕ}
 use lib.Dec.{ltb}
 use borrow.Author.Rules.{rules}
+use mathlib.Core.Bool.{not}
 use Rattle.rules.specs.Contest.{bad_greatest}
 use Rattle.contest.proofs.Laws.{left_first, kept_first}
 use Rattle.contest.proofs.number.bad_greatest.Statement.{statement}
@@ -17,10 +18,9 @@ bad_greatest_spec =
     (λ c κs. search rules)
     (λ c κs. search rules)
     (λ c κs. search rules)
-    (λ c. left_first _ _ c.before.is-from.ensures c.if1.true)
-    (λ c. kept_first _ _ _ c.before.before.before.is-from.ensures c.before.before.if1.false (left_first _ _ c.before.is-from2.ensures c.if2.true))
+    (λ c. left_first _ _ c.is_from.ensures (ap not c.if-not-is_from.true))
+    (λ c. kept_first _ _ _ c.is_from.ensures (ap not c.if-not-is_from.false) (left_first _ _ c.is_from-else-not-is_from.ensures (ap not c.if-not-is_from-2.true)))
     (λ c.
-    let p = c.before.before.before.before.before in
-    let holder = p.before.before.args.k.holder in
-    kept_first _ _ _ c.before.before.before.before.is-from.ensures c.before.before.before.if1.false
-    (kept_first _ _ _ c.before.before.is-from2.ensures c.before.if2.false (ap (λ (x : ℕ). ltb holder x) p.present-term.ensures))))
+    let holder = c.args.k.holder in
+    kept_first _ _ _ c.is_from.ensures (ap not c.if-not-is_from.false)
+    (kept_first _ _ _ c.is_from-else-not-is_from.ensures (ap not c.if-not-is_from-2.false) (ap (λ (x : ℕ). ltb holder x) c.present_term-present.ensures))))

@@ -9,6 +9,6 @@ present_term_spec =
     tie.close
     (tie.spec
     (λ c κs. search rules)
-    (λ c κs. let s = c.before.before in in_place s.requires.0 s.args.k s.requires.1 c.row_of.ensures)
+    (λ c κs. in_place c.requires.0 c.args.k c.requires.1 c.row_of-row.ensures)
     (λ c. search rules)
-    (λ c. present_says _ _ c.before.before.before.args.k c.count_of.ensures.0 c.before.row_of.ensures))
+    (λ c. present_says _ _ c.args.k c.count_of.ensures.0 c.row_of-row.ensures))
