@@ -1,4 +1,2 @@
-pub mod Clauses
 pub mod Fold
-pub mod Lending
 pub mod Handing

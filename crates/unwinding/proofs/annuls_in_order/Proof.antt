@@ -14,26 +14,26 @@ use Rattle.unwinding.proofs.annuls_in_order.Statement.{statement}
 use Rattle.unwinding.proofs.annuls_in_order.Tie as tie
 
 -- what the test of soundness said, where it passed
-both : (c : tie.Else4) → let s = c.before.before.before.before.before.before.before.before.before in sound_both s.args.l.now s.args.postings.now ≡ true
-both c = sym c.before.sound-both.ensures ∙ not-false _ c.if4.false
+both : (c : tie.Else-not-sound_both) → sound_both c.args.l.now c.args.postings.now ≡ true
+both c = sym c.sound_both.ensures ∙ c.if-not-sound_both.false
 
-long : (c : tie.Else4) → let s = c.before.before.before.before.before.before.before.before.before in 8 ≤ length s.args.l.now
+long : (c : tie.Else-not-sound_both) → 8 ≤ length c.args.l.now
 long c = head_fits (sound_at _ _ (both c))
 
 pub annuls_in_order_spec : {M : Type 1} → statement M
 annuls_in_order_spec =
     tie.close
     (tie.spec
-    (λ c. none_listed _ _ _ c.if1.true)
-    (λ c. no_head _ _ _ c.before.if1.false c.if2.true)
-    (λ c. omega (arith, c.before.if2.false))
-    (λ c. omega (arith, c.shared-slice-known4.given 6))
-    (λ c. sym (longer_is_no _ _ _ c.if3.true))
+    (λ c. none_listed _ _ _ c.if-refs-eq0.true)
+    (λ c. no_head _ _ _ c.if-refs-eq0.false c.if-l-le-USED.true)
+    (λ c. omega (arith, c.if-l-le-USED.false))
+    (λ c. omega (arith, c.shared_slice_known-4-1.given 6))
+    (λ c. sym (longer_is_no _ _ _ c.if-used-refs.true))
     (λ c κs. search rules)
-    (λ c. unsound_not _ _ _ c.before.before.before.before.before.if1.false (sym c.before.sound-both.ensures ∙ not-true _ c.if4.true))
+    (λ c. unsound_not _ _ _ c.if-refs-eq0.false (sym c.sound_both.ensures ∙ c.if-not-sound_both.true))
     (λ c. omega (arith, long c.before))
-    (λ c. omega (arith, c.shared-slice-known5.given 0))
+    (λ c. omega (arith, c.shared_slice_known-5-1.given 0))
     (λ c. omega (arith, long c.before.before))
-    (λ c. omega (arith, c.shared-slice-known6.given 1))
+    (λ c. omega (arith, c.shared_slice_known-6-1.given 1))
     (λ c κs. (both c.before.before, sound_at _ _ (both c.before.before), refl))
     (λ c. c.unwinds.ensures))

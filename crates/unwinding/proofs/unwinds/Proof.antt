@@ -20,7 +20,7 @@ unwinds_spec =
     (tie.spec
     (λ c. search rules)
     (λ c. search rules)
-    (λ c. hours-fit c.before.before.before.before.before.requires.1)
-    (λ c. sym (length-take-le _ _ (hours-fit c.before.before.before.before.before.before.requires.1)))
-    (λ c κs. let p = c.before.before.before.before.before.before.requires in (p, (refl, refl, length-take-le _ _ (hours-fit p.1))))
-    (λ c. c.before.before.before.three-passes.ensures))
+    (λ c. hours-fit c.requires.1)
+    (λ c. sym (length-take-le _ _ (hours-fit c.requires.1)))
+    (λ c κs. let p = c.requires in (p, (refl, refl, length-take-le _ _ (hours-fit p.1))))
+    (λ c. c.three_passes.ensures))

@@ -17,26 +17,20 @@ pub add_gave_spec : {M : Type 1} → statement M
 add_gave_spec =
     tie.close
     (tie.spec
-    (λ c. let p = c.before.before.before.requires in omega (arith, p.1.0.0, few p.0))
-    (λ c. let p = c.before.before.before.before.requires in omega (arith, p.1.0.0, few p.0, p.1.0.1))
+    (λ c. let p = c.requires in omega (arith, p.1.0.0, few p.0))
+    (λ c. let p = c.requires in omega (arith, p.1.0.0, few p.0, p.1.0.1))
     (λ c.
-    let s = c.before.before.before.before.before in
-    adds_none _ (gave_unmarked s.args.hours s.args.l.now (marked s.args.marks.now) s.args.m
-    s.args.j (mark_off _ _ c.if1.true)))
-    (λ c κs. let p = c.before.before.before.before.before.requires in (sized_at p.0, in_rows p.0 p.1.0.0))
+    adds_none _ (gave_unmarked c.args.hours c.args.l.now (marked c.args.marks.now) c.args.m
+    c.args.j (mark_off _ _ c.if-marks-j-eq0.true)))
+    (λ c κs. let p = c.requires in (sized_at p.0, in_rows p.0 p.1.0.0))
     (λ c.
-    let u = c.before in
-    let s = u.before.before.before.before.before.before in
-    adds_none _ (gave_nothing s.args.hours s.args.l.now (marked s.args.marks.now) s.args.m
-    s.args.j (mark_on _ _ u.before.if1.false) (sym u.gives_to.ensures ∙ not-true _ c.if2.true)))
+    adds_none _ (gave_nothing c.args.hours c.args.l.now (marked c.args.marks.now) c.args.m
+    c.args.j (mark_on _ _ c.if-marks-j-eq0.false) (sym c.gives_to.ensures ∙ c.if-not-gives_to.true)))
     (λ c κs.
-    let p = c.before.before.before.before.before.before.before.before.requires in
+    let p = c.requires in
     (p.0, ((p.1.0.0, lit< tt), sums_wider (omega arith) p.1.1)))
     (λ c. search rules)
     (λ c.
-    let a = c.before.before in
-    let u = a.before.before.before in
-    let s = u.before.before.before.before.before.before in
-    adds_as (λ h _. gave s.args.hours s.args.l.now (marked s.args.marks.now) s.args.m s.args.j
-    (mark_on _ _ u.before.if1.false) (sym u.gives_to.ensures ∙ not-false _ a.before.before.if2.false) h)
-    a.add-hours.ensures))
+    adds_as (λ h _. gave c.args.hours c.args.l.now (marked c.args.marks.now) c.args.m c.args.j
+    (mark_on _ _ c.if-marks-j-eq0.false) (sym c.gives_to.ensures ∙ c.if-not-gives_to.false) h)
+    c.add_hours.ensures))

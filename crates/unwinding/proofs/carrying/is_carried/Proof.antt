@@ -15,30 +15,30 @@ use Rattle.unwinding.proofs.carrying.is_carried.Tie as tie
 abbrev S : tie.After-asks → tie.Start
 S c = c.before.before.before.before
 
-abbrev A : tie.After-posting-at → tie.After-asks
+abbrev A : tie.After-posting_at-from → tie.After-asks
 A c = c.before.before
 
 pub is_carried_spec : {M : Type 1} → statement M
 is_carried_spec =
     tie.close
     (tie.spec
-    (λ c κs. let s = c.before.before.before in (s.requires.0, s.requires.1.0.0))
-    (λ c. or_stops _ _ (ap not (sym c.before.asks.ensures ∙ not-true _ c.if1.true)))
+    (λ c κs. (c.requires.0, c.requires.1.0.0))
+    (λ c. or_stops _ _ (ap not (sym c.asks.ensures ∙ c.if-not-asks.true)))
     (λ c κs. search rules)
     (λ c. search rules)
     (λ c. search rules)
     (λ c. search rules)
     (λ c. search rules)
-    (λ c. omega (arith, posting_in (S (A c)).requires.1.1.0 c.posting-at.ensures))
+    (λ c. omega (arith, posting_in (S (A c)).requires.1.1.0 c.posting_at-from.ensures))
     (λ c κs.
     let t = c.before in
     let s = S (A t) in
-    lent_length s.args.postings.now t.posting-at.result (posting_at s.args.hours s.args.x 0)
-    s.args.hours t.posting-at.ensures.is (posting_in s.pre.1.1.0 t.posting-at.ensures)
-    ∙ sym s.pre.1.0.1)
+    lent_length s.args.postings.now t.posting_at-from.result (posting_at s.args.hours s.args.x 0)
+    s.args.hours t.posting_at-from.ensures.is (posting_in s.requires.1.1.0 t.posting_at-from.ensures)
+    ∙ sym s.requires.1.0.1)
     (λ c.
     let t = c.before.before in
     let s = S (A t) in
-    or_goes _ _ _ (ap not (sym (A t).asks.ensures ∙ not-false _ t.before.if1.false))
-    (c.all-covered.ensures
-    ∙ within_posted s.pre.1.1.0 t.posting-at.ensures s.args.sums.now s.pre.1.0.1)))
+    or_goes _ _ _ (ap not (sym (A t).asks.ensures ∙ t.if-not-asks.false))
+    (c.all_covered.ensures
+    ∙ within_posted s.requires.1.1.0 t.posting_at-from.ensures s.args.sums.now s.requires.1.0.1)))

@@ -13,19 +13,13 @@ pub fits_late_spec : {M : Type 1} → statement M
 fits_late_spec =
     tie.close
     (tie.spec
-    (λ c. let s = c.before.before.before.before in omega (arith, s.requires.1.1.0, few s.requires.0))
+    (λ c. omega (arith, c.requires.1.1.0, few c.requires.0))
     (λ c.
-    let s = c.before.before.before.before.before in
-    omega (arith, s.requires.1.1.0, s.requires.1.1.1, few s.requires.0))
+    omega (arith, c.requires.1.1.0, c.requires.1.1.1, few c.requires.0))
     (λ c.
-    let s = c.before.before.before.before.before.before in
-    or_stops _ _ (ap not (mark_off s.args.late.now s.args.p c.if1.true)))
+    or_stops _ _ (ap not (mark_off c.args.late.now c.args.p c.if-late-p-eq0.true)))
     (λ c κs.
-    let s = c.before.before.before.before.before.before.before in
-    (s.requires.0, (s.requires.1.0, s.requires.1.1.0)))
+    (c.requires.0, (c.requires.1.0, c.requires.1.1.0)))
     (λ c. search rules)
     (λ c.
-    let f = c.before.before in
-    let e = f.before.before in
-    let s = e.before.before.before.before.before.before in
-    or_goes _ _ _ (ap not (mark_on s.args.late.now s.args.p e.if1.false)) f.fits2.ensures))
+    or_goes _ _ _ (ap not (mark_on c.args.late.now c.args.p c.if-late-p-eq0.false)) c.fits.ensures))

@@ -9,7 +9,7 @@ use Rattle.rules.specs.Numbers.{most_megawatts}
 use Rattle.unwinding.proofs.fitting.within_beyond.Statement.{statement}
 use Rattle.unwinding.proofs.fitting.within_beyond.Tie as tie
 
-abbrev invariant-loop : tie.invariant-loop
+abbrev invariant-loop : tie.invariant-loop-h
 invariant-loop sums v ok₀ h₀ h-end ok h =
     Gathering (length sums) (λ k. leb (word_at sums k) (most_megawatts + word_at v k)) h-end ok h
 
@@ -22,13 +22,13 @@ within_beyond_spec =
     (λ c. gathering_start _ _)
     (λ c. omega arith)
     (λ c. omega arith)
-    (λ c. let l = c.before.before in omega (arith, c.shared-slice-known.given l.loop.h))
+    (λ c. omega (arith, c.shared_slice_known-1.given c.loop-h.h))
     (λ c. omega arith)
     (λ c. omega arith)
     (λ c. omega arith)
-    (λ c. let l = c.before.before.before in omega (arith, c.shared-slice-known2.given l.loop.h))
-    (λ c. let l = c.before.before.before in omega (arith, c.shared-slice-known2.given l.loop.h))
+    (λ c. omega (arith, c.shared_slice_known-in-loop-h-1.given c.loop-h.h))
+    (λ c. omega (arith, c.shared_slice_known-in-loop-h-1.given c.loop-h.h))
     (λ c. omega arith)
     (λ c. omega arith)
-    (λ c. gathering_turn c.before.before.before.loop.invariant (omega arith))
-    (λ c. gathering_done c.before.loop.invariant (omega arith)))
+    (λ c. gathering_turn c.loop-h.invariant (omega arith))
+    (λ c. gathering_done c.loop-h.invariant (omega arith)))

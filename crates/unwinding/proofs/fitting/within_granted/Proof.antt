@@ -19,7 +19,7 @@ within_granted_spec =
     (λ c. search rules)
     (λ c. search rules)
     (λ c. search rules)
-    (λ c. omega (arith, (sized_at c.before.before.before.requires.0).long))
+    (λ c. omega (arith, (sized_at c.requires.0).long))
     (λ c κs. search rules)
     (λ c. search rules)
     (λ c. search rules)
@@ -27,14 +27,8 @@ within_granted_spec =
     (λ c. search rules)
     (λ c. search rules)
     (λ c κs.
-    let h = c.before in
-    let r = h.before.before in
-    let s = r.before.before.before in
-    lent_long s.requires.0 r.row_at.ensures h.hours_at.ensures ∙ sym s.requires.1.1)
+    lent_long c.requires.0 c.row_at-at.ensures c.hours_at-from.ensures ∙ sym c.requires.1.1)
     (λ c.
-    let h = c.before.before in
-    let r = h.before.before in
-    let s = r.before.before.before in
-    c.within-beyond.ensures
-    ∙ granted_lent s.requires.0 r.row_at.ensures h.hours_at.ensures s.requires.1.0
-    s.args.sums.now s.requires.1.1))
+    c.within_beyond.ensures
+    ∙ granted_lent c.requires.0 c.row_at-at.ensures c.hours_at-from.ensures c.requires.1.0
+    c.args.sums.now c.requires.1.1))

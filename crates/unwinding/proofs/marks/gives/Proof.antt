@@ -16,10 +16,8 @@ gives_spec =
     tie.close
     (tie.spec
     (λ c κs. search rules)
-    (λ c. and_stops _ _ (sym c.before.is-confirmed.ensures ∙ not-true _ c.if1.true))
+    (λ c. and_stops _ _ (sym c.is_confirmed.ensures ∙ c.if-not-is_confirmed.true))
     (λ c κs. search rules)
     (λ c κs. search rules)
     (λ c.
-    let w = c.before in
-    let u = w.before.before in
-    goes _ u.is-confirmed.ensures (not-false _ w.before.if1.false) (ap not (c.is-original.ensures ∙ ap (λ (k : ℕ). original k) w.word_at.ensures))))
+    goes _ c.is_confirmed.ensures c.if-not-is_confirmed.false (ap not (c.is_original.ensures ∙ ap (λ (k : ℕ). original k) c.word_at.ensures))))

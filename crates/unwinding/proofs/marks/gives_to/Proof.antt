@@ -15,9 +15,7 @@ gives_to_spec =
     tie.close
     (tie.spec
     (λ c κs. search rules)
-    (λ c. and_stops _ _ (sym c.before.gives.ensures ∙ not-true _ c.if1.true))
+    (λ c. and_stops _ _ (sym c.gives.ensures ∙ c.if-not-gives.true))
     (λ c κs. search rules)
     (λ c.
-    let u = c.before.before in
-    let s = u.before.before in
-    goes _ u.gives.ensures (not-false _ c.before.if1.false) (ap (λ (k : ℕ). eqb k s.args.m) c.related-of.ensures)))
+    goes _ c.gives.ensures c.if-not-gives.false (ap (λ (k : ℕ). eqb k c.args.m) c.related_of.ensures)))

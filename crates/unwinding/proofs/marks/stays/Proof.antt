@@ -13,12 +13,8 @@ stays_spec =
     (tie.spec
     (λ c κs. search rules)
     (λ c.
-    let u = c.before in
-    let s = u.before.before.before in
-    stays_not _ _ s.args.marks.now _ (sym u.is-confirmed.ensures ∙ not-true _ c.if1.true))
+    stays_not _ _ c.args.marks.now _ (sym c.is_confirmed.ensures ∙ c.if-not-is_confirmed.true))
     (λ c. omega arith)
     (λ c. omega arith)
     (λ c.
-    let u = c.before.before in
-    let s = u.before.before.before in
-    sym (stays_by _ _ s.args.marks.now _ (sym u.is-confirmed.ensures ∙ not-false _ c.before.if1.false))))
+    sym (stays_by _ _ c.args.marks.now _ (sym c.is_confirmed.ensures ∙ c.if-not-is_confirmed.false))))

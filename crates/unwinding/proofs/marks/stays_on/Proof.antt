@@ -13,9 +13,7 @@ stays_on_spec =
     tie.close
     (tie.spec
     (λ c κs. search rules)
-    (λ c. and_stops _ _ (sym c.before.stays.ensures ∙ not-true _ c.if1.true))
+    (λ c. and_stops _ _ (sym c.stays.ensures ∙ c.if-not-stays.true))
     (λ c κs. search rules)
     (λ c.
-    let u = c.before.before in
-    let s = u.before.before.before in
-    goes _ u.stays.ensures (not-false _ c.before.if1.false) (ap (λ (k : ℕ). eqb k s.args.x) c.word_at.ensures)))
+    goes _ c.stays.ensures c.if-not-stays.false (ap (λ (k : ℕ). eqb k c.args.x) c.word_at.ensures)))

@@ -15,14 +15,14 @@ use Rattle.unwinding.proofs.Movable.{Moving, moving_start, moving_fails, moving_
 use Rattle.unwinding.proofs.moving.all_movable.Statement.{statement}
 use Rattle.unwinding.proofs.moving.all_movable.Tie as tie
 
-abbrev invariant-loop : tie.invariant-loop
+abbrev invariant-loop : tie.invariant-loop-k
 invariant-loop marks₀ late₀ sums₀ l refs rows hours used k₀ k-end marks late sums k =
     Moving hours l refs marks late sums k-end k
 
-abbrev decreases-loop : tie.decreases-loop
+abbrev decreases-loop : tie.decreases-loop-k
 decreases-loop marks₀ late₀ sums₀ l refs rows hours used k₀ k-end marks late sums k = k-end - k
 
-abbrev S : tie.At-loop invariant-loop decreases-loop → tie.Start invariant-loop decreases-loop
+abbrev S : tie.At-loop-k invariant-loop decreases-loop → tie.Start invariant-loop decreases-loop
 S c = c.before.before.before.before.before.before
 
 -- the tables were as long
@@ -33,17 +33,17 @@ late-long : (c : tie.Start invariant-loop decreases-loop) → length c.args.late
 late-long c = ap length c.requires.1.0.1 ∙ noughts_length most_rows
 
 -- a turn whose reference can go
-abbrev I : tie.After-movable invariant-loop decreases-loop → tie.In-loop invariant-loop decreases-loop
-I c = c.before.before.before.before
+abbrev I : tie.After-movable invariant-loop decreases-loop → tie.In-loop-k invariant-loop decreases-loop
+I c = c.before.before.before
 
-abbrev G : tie.After-row-of invariant-loop decreases-loop → tie.After-movable invariant-loop decreases-loop
+abbrev G : tie.After-row_of-n invariant-loop decreases-loop → tie.After-movable invariant-loop decreases-loop
 G c = c.before.before.before.before
 
-went : (c : tie.After-row-of invariant-loop decreases-loop) → (G c).movable.result ≡ true
-went c = not-false _ c.before.if1.false
+went : (c : tie.After-row_of-n invariant-loop decreases-loop) → (G c).movable.result ≡ true
+went c = c.if-not-movable.false
 
-in_use : (c : tie.After-row-of invariant-loop decreases-loop) → c.row_of.result.0 < used_rows (S (I (G c)).before).args.l.now
-in_use c = moving_row (I (G c)).before.loop.inv (omega arith) (G c).movable.ensures (went c) c.row_of.ensures
+in_use : (c : tie.After-row_of-n invariant-loop decreases-loop) → c.row_of-n.result.0 < used_rows (S (I (G c)).before).args.l.now
+in_use c = moving_row (I (G c)).before.loop-k.invariant (omega arith) (G c).movable.ensures (went c) c.row_of-n.ensures
 
 pub all_movable_spec : {M : Type 1} → statement M
 all_movable_spec =
@@ -52,49 +52,47 @@ all_movable_spec =
     invariant-loop
     decreases-loop
     (λ c.
-    let s = c.before.before.before.before.before in
-    moving_start _ _ _ s.requires.1.0.0 s.requires.1.0.1 s.requires.1.0.2)
+    moving_start _ _ _ c.requires.1.0.0 c.requires.1.0.1 c.requires.1.0.2)
     (λ c. omega arith)
     (λ c. omega arith)
     (λ c κs.
-    let i = c.before.before.before.before in
+    let i = c.before.before.before in
     let s = S i in
-    (s.pre.0, (s.pre.1.1, i.loop.invariant.gone.long, i.loop.invariant.long)))
-    (λ c. let i = (I c.before.before.before).before in i.loop.inv.gone.long ∙ sym (marks-long (S i)))
-    (λ c. let i = (I c.before.before.before).before in i.loop.inv.back.long ∙ sym (late-long (S i)))
+    (s.requires.0, (s.requires.1.1, i.loop-k.invariant.gone.long, i.loop-k.invariant.long)))
+    (λ c. let i = (I c.before.before.before).before in i.loop-k.invariant.gone.long ∙ sym (marks-long (S i)))
+    (λ c. let i = (I c.before.before.before).before in i.loop-k.invariant.back.long ∙ sym (late-long (S i)))
     (λ c.
     let t = c.before.before.before in
     let i = (I t).before in
-    t.movable.auto.0 ∙ i.loop.inv.long ∙ sym (S i).pre.1.0.2)
+    t.movable.auto.sums ∙ i.loop-k.invariant.long ∙ sym (S i).requires.1.0.2)
     (λ c.
     let t = c.before.before.before in
     let i = (I t).before in
-    let f = moving_fails i.loop.inv (omega arith) t.movable.ensures (not-true _ c.if1.true) in
+    let f = moving_fails i.loop-k.invariant (omega arith) t.movable.ensures c.if-not-movable.true in
     (f, ((λ e. never (sym e)), (λ e. never (sym e)))))
     (λ c κs. search rules)
     (λ c κs.
-    let w = c.before.before in
+    let w = c.before in
     let i = (I (G w)).before in
-    ((S i).pre.0, (in_use w, i.loop.inv.gone.long, i.loop.inv.back.long)))
+    ((S i).requires.0, (in_use w, i.loop-k.invariant.gone.long, i.loop-k.invariant.back.long)))
     (λ c.
-    let w = c.before.before.before.before.before in
-    omega (arith, in_use w, few (S (I (G w)).before).pre.0))
+    let w = c.before.before.before.before in
+    omega (arith, in_use w, few (S (I (G w)).before).requires.0))
     (λ c.
-    let w = c.before.before.before.before.before in
+    let w = c.before.before.before.before in
     let i = (I (G w)).before in
-    omega (arith, in_use w, few (S i).pre.0, i.loop.inv.gone.long))
+    omega (arith, in_use w, few (S i).requires.0, i.loop-k.invariant.gone.long))
     (λ c. omega arith)
     (λ c. omega arith)
     (λ c.
-    let a = c.before.before in
-    let w = a.before.before.before in
+    let w = c.before.before.before.before in
     let t = G w in
     let i = (I t).before in
-    moving_turn i.loop.inv (omega arith) t.movable.ensures (went w) w.row_of.ensures
-    (S i).pre.0 a.mark-late.ensures t.movable.kept.0)
-    (λ c. let i = c.before in i.loop.invariant.gone.long ∙ sym (marks-long (S i)))
-    (λ c. let i = c.before in i.loop.invariant.back.long ∙ sym (late-long (S i)))
-    (λ c. let i = c.before in i.loop.invariant.long ∙ sym (S i).requires.1.0.2)
+    moving_turn i.loop-k.invariant (omega arith) t.movable.ensures (went w) w.row_of-n.ensures
+    (S i).requires.0 c.mark_late.ensures t.movable.auto.sums)
+    (λ c. let i = c.before in i.loop-k.invariant.gone.long ∙ sym (marks-long (S i)))
+    (λ c. let i = c.before in i.loop-k.invariant.back.long ∙ sym (late-long (S i)))
+    (λ c. let i = c.before in i.loop-k.invariant.long ∙ sym (S i).requires.1.0.2)
     (λ c.
-    let v = c.before.loop.invariant in
+    let v = c.loop-k.invariant in
     (moving_done v (omega arith), ((λ e. moving_marks v (omega arith)), (λ e. moving_late v (omega arith))))))

@@ -13,21 +13,13 @@ pub is_whole_spec : {M : Type 1} → statement M
 is_whole_spec =
     tie.close
     (tie.spec
-    (λ c κs. let p = c.before.before.before.before.requires in (p.0, p.1.0))
+    (λ c κs. let p = c.requires in (p.0, p.1.0))
     (λ c κs.
-    let b = c.before.before.before in
-    let s = b.before.before.before.before.before in
-    let o = back_sums s.requires.0 (marked s.args.marks.now) s.args.n b.sum_back.ensures in
-    (s.requires.0, ((s.requires.1.1, lit< tt), sums_wider (omega arith) o)))
+    let o = back_sums c.requires.0 (marked c.args.marks.now) c.args.n c.sum_back.ensures in
+    (c.requires.0, ((c.requires.1.1, lit< tt), sums_wider (omega arith) o)))
     (λ c κs.
-    let a = c.before.before.before in
-    let b = a.before.before.before.before in
-    let s = b.before.before.before.before.before in
-    (s.requires.0, ((s.requires.1.1, lit< tt), a.add-hours.ensures.long ∙ b.sum_back.ensures.long)))
+    (c.requires.0, ((c.requires.1.1, lit< tt), c.add_hours.ensures.long ∙ c.sum_back.ensures.long)))
     (λ c. search rules)
     (λ c.
-    let a = c.before.before.before.before in
-    let b = a.before.before.before.before in
-    let s = b.before.before.before.before.before in
-    whole_told s.args.hours s.args.l.now (marked s.args.marks.now) s.args.n
-    b.sum_back.ensures a.add-hours.ensures c.equals-hours.ensures))
+    whole_told c.args.hours c.args.l.now (marked c.args.marks.now) c.args.n
+    c.sum_back.ensures c.add_hours.ensures c.equals_hours.ensures))

@@ -18,42 +18,41 @@ use Rattle.unwinding.proofs.Movable.{movable_absent, movable_gone, movable_barre
 use Rattle.unwinding.proofs.moving.movable.Statement.{statement}
 use Rattle.unwinding.proofs.moving.movable.Tie as tie
 
-abbrev S : tie.After-row-of → tie.Start
+abbrev S : tie.After-row_of-n → tie.Start
 S c = c.before.before.before.before.before.before.before
 
-there : (c : tie.After-row-of) → issued (S c).args.l.now (S c).args.r ≡ true
+there : (c : tie.After-row_of-n) → issued (S c).args.l.now (S c).args.r ≡ true
 unfolding issued
-there c = sym c.before.before.is-from.ensures ∙ not-false _ c.before.if1.false
+there c = sym c.is_from.ensures ∙ c.if-not-is_from.false
 
-in_use : (c : tie.After-row-of) → c.row_of.result.0 < used_rows (S c).args.l.now
+in_use : (c : tie.After-row_of-n) → c.row_of-n.result.0 < used_rows (S c).args.l.now
 unfolding issued
 in_use c =
     let b = range 1 (S c).args.r (used_rows (S c).args.l.now) (there c) in
-    omega (arith, c.row_of.ensures, b.0, b.1)
+    omega (arith, c.row_of-n.ensures, b.0, b.1)
 
-abbrev W : tie.Else2 → tie.After-row-of
+abbrev W : tie.Else-marks-at-ne0 → tie.After-row_of-n
 W c = c.before.before
 
-free : (c : tie.Else2) → marked (S (W c)).args.marks.now (W c).row_of.result.0 ≡ false
-free c = mark_off _ _ c.if2.false
+free : (c : tie.Else-marks-at-ne0) → marked (S (W c)).args.marks.now (W c).row_of-n.result.0 ≡ false
+free c = mark_off _ _ c.if-marks-at-ne0.false
 
-abbrev own : (c : tie.After-row-of) → List ℕ
-own c = row (S c).args.hours (S c).args.l.now c.row_of.result.0
+abbrev own : (c : tie.After-row_of-n) → List ℕ
+own c = row (S c).args.hours (S c).args.l.now c.row_of-n.result.0
 
-may : (c : tie.Else3) → seller_may (own (W c.before.before)) ANNULLED ≡ true
-may c = sym c.before.seller-may-row.ensures ∙ not-false _ c.if3.false
+may : (c : tie.Else-not-seller_may_row) → seller_may (own (W c.before.before)) ANNULLED ≡ true
+may c = sym c.seller_may_row.ensures ∙ c.if-not-seller_may_row.false
 
 pub movable_spec : {M : Type 1} → statement M
 unfolding issued
 movable_spec =
     tie.close
     (tie.spec
-    (λ c. omega (arith, head_fits c.before.before.before.before.requires.0))
+    (λ c. omega (arith, head_fits c.requires.0))
     (λ c κs. search rules)
     (λ c.
-    let s = c.before.before.before.before.before.before in
-    movable_absent s.args.hours s.args.l.now (marked s.args.marks.now) s.args.r
-    (sym c.before.is-from.ensures ∙ not-true _ c.if1.true))
+    movable_absent c.args.hours c.args.l.now (marked c.args.marks.now) c.args.r
+    (sym c.is_from.ensures ∙ c.if-not-is_from.true))
     (λ c κs. search rules)
     (λ c. search rules)
     (λ c. let w = c.before in omega (arith, in_use w, few (S w).requires.0, (S w).requires.1.1))
@@ -61,35 +60,33 @@ movable_spec =
     let w = c.before.before in
     let s = S w in
     movable_gone s.args.hours s.args.l.now (marked s.args.marks.now) s.args.r
-    (there w) w.row_of.ensures (mark_on _ _ c.if2.true))
-    (λ c κs. let w = W c in (sized_at (S w).pre.0, in_rows (S w).pre.0 (in_use w)))
+    (there w) w.row_of-n.ensures (mark_on _ _ c.if-marks-at-ne0.true))
+    (λ c κs. let w = W c in (sized_at (S w).requires.0, in_rows (S w).requires.0 (in_use w)))
     (λ c.
     let f = c.before.before in
     let w = W f in
     let s = S w in
     movable_barred s.args.hours s.args.l.now (marked s.args.marks.now) s.args.r
-    (there w) w.row_of.ensures (free f) (sym c.before.seller-may-row.ensures ∙ not-true _ c.if3.true))
-    (λ c κs. let w = W c.before.before in (sized_at (S w).pre.0, in_rows (S w).pre.0 (in_use w)))
+    (there w) w.row_of-n.ensures (free f) (sym c.seller_may_row.ensures ∙ c.if-not-seller_may_row.true))
+    (λ c κs. let w = W c.before.before in (sized_at (S w).requires.0, in_rows (S w).requires.0 (in_use w)))
     (λ c.
     let m = c.before.before in
     let f = m.before.before in
     let w = W f in
     let s = S w in
     movable_open s.args.hours s.args.l.now (marked s.args.marks.now) s.args.r
-    (there w) w.row_of.ensures (free f) (may m)
-    (sym c.before.is-confirmed.ensures ∙ not-true _ c.if4.true))
+    (there w) w.row_of-n.ensures (free f) (may m)
+    (sym c.is_confirmed.ensures ∙ c.if-not-is_confirmed.true))
     (λ c κs.
     let w = W c.before.before.before.before.before in
     let s = S w in
-    (s.pre.0, (s.pre.1, in_use w)))
+    (s.requires.0, (s.requires.1, in_use w)))
     (λ c. search rules)
     (λ c.
-    let t = c.before.before in
-    let n = t.before.before in
-    let m = n.before.before in
+    let m = c.before.before.before.before.before.before in
     let f = m.before.before in
     let w = W f in
     let s = S w in
     movable_by s.args.hours s.args.l.now (marked s.args.marks.now) s.args.r
-    (there w) w.row_of.ensures (free f) (may m)
-    (sym n.before.is-confirmed.ensures ∙ not-false _ n.if4.false) t.is_whole.ensures))
+    (there w) w.row_of-n.ensures (free f) (may m)
+    (sym c.is_confirmed.ensures ∙ c.if-not-is_confirmed.false) c.is_whole.ensures))

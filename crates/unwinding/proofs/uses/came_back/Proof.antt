@@ -17,15 +17,11 @@ pub came_back_spec : {M : Type 1} → statement M
 came_back_spec =
     tie.close
     (tie.spec
-    (λ c κs. let s = c.before.before in (sized_at s.requires.0, in_rows s.requires.0 s.requires.1.0))
-    (λ c. and_stops _ _ (sym c.before.gives.ensures ∙ not-true _ c.if1.true))
-    (λ c κs. let s = c.before.before.before.before in (sized_at s.requires.0, in_rows s.requires.0 s.requires.1.0))
+    (λ c κs. (sized_at c.requires.0, in_rows c.requires.0 c.requires.1.0))
+    (λ c. and_stops _ _ (sym c.gives.ensures ∙ c.if-not-gives.true))
+    (λ c κs. (sized_at c.requires.0, in_rows c.requires.0 c.requires.1.0))
     (λ c κs.
-    let t = c.before in
-    let s = t.before.before.before.before in
-    (s.requires.0, (omega (arith, c.related-of.ensures, gives_above s.requires.0 s.requires.1.0 (sym t.before.gives.ensures ∙ not-false _ t.if1.false)), s.requires.1.1)))
+    (c.requires.0, (omega (arith, c.related_of-above.ensures, gives_above c.requires.0 c.requires.1.0 (sym c.gives.ensures ∙ c.if-not-gives.false)), c.requires.1.1)))
     (λ c.
-    let t = c.before.before in
-    let s = t.before.before.before.before in
-    goes _ t.before.gives.ensures (not-false _ t.if1.false)
-    (c.counts.ensures ∙ ap (λ (k : ℕ). counts_by s.args.hours s.args.l.now (stays s.args.hours s.args.l.now (marked s.args.marks.now)) s.args.x k) c.before.related-of.ensures)))
+    goes _ c.gives.ensures c.if-not-gives.false
+    (c.counts.ensures ∙ ap (λ (k : ℕ). counts_by c.args.hours c.args.l.now (stays c.args.hours c.args.l.now (marked c.args.marks.now)) c.args.x k) c.related_of-above.ensures)))

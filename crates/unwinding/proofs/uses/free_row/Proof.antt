@@ -9,21 +9,19 @@ use Rattle.unwinding.proofs.Followed.{freeing_skip, freeing_holds, freeing_less}
 use Rattle.unwinding.proofs.uses.free_row.Statement.{statement}
 use Rattle.unwinding.proofs.uses.free_row.Tie as tie
 
-is-freed : (c : tie.Then1) → let s = c.before.before.before.before.before in freed s.args.hours s.args.l.now (marked s.args.marks.now) s.args.x s.args.n s.args.m ≡ true
-is-freed c = sym c.before.freed.ensures ∙ c.if1.true
+is-freed : (c : tie.Then-freed) → freed c.args.hours c.args.l.now (marked c.args.marks.now) c.args.x c.args.n c.args.m ≡ true
+is-freed c = sym c.freed.ensures ∙ c.if-freed.true
 
 pub free_row_spec : {M : Type 1} → statement M
 free_row_spec =
     tie.close
     (tie.spec
-    (λ c κs. let s = c.before.before.before in (s.requires.0, s.requires.1.0))
+    (λ c κs. (c.requires.0, c.requires.1.0))
     (λ c κs.
     let t = c.before in
-    let s = t.before.before.before.before.before in
-    (s.requires.0, ((s.requires.1.0.0, lit< tt), freeing_holds s.requires.1.1 s.requires.1.0.0 (is-freed t))))
+    (t.requires.0, ((t.requires.1.0.0, lit< tt), freeing_holds t.requires.1.1 t.requires.1.0.0 (is-freed t))))
     (λ c. search rules)
     (λ c.
     let t = c.before.before.before.before in
-    let s = t.before.before.before.before.before in
-    freeing_less s.requires.1.1 s.requires.1.0.0 (is-freed t) c.before.before.less-hours.ensures)
-    (λ c. let s = c.before.before.before.before.before in freeing_skip s.requires.1.1 (sym c.before.freed.ensures ∙ c.if1.false)))
+    freeing_less t.requires.1.1 t.requires.1.0.0 (is-freed t) c.less_hours.ensures)
+    (λ c. freeing_skip c.requires.1.1 (sym c.freed.ensures ∙ c.if-freed.false)))

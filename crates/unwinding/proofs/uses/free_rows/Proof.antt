@@ -7,10 +7,10 @@ use Rattle.unwinding.specs.Uses.{Freeing}
 use Rattle.unwinding.proofs.uses.free_rows.Statement.{statement}
 use Rattle.unwinding.proofs.uses.free_rows.Tie as tie
 
-abbrev invariant-loop : tie.invariant-loop
+abbrev invariant-loop : tie.invariant-loop-m
 invariant-loop sums₀ l marks rows hours used x n m₀ sums m = Freeing hours l (marked marks) x n m sums × (m ≤ used)
 
-abbrev decreases-loop : tie.decreases-loop
+abbrev decreases-loop : tie.decreases-loop-m
 decreases-loop sums₀ l marks rows hours used x n m₀ sums m = used - m
 
 pub free_rows_spec : {M : Type 1} → statement M
@@ -19,22 +19,15 @@ free_rows_spec =
     (tie.spec
     invariant-loop
     decreases-loop
-    (λ c. let s = c.before.before.before in (s.requires.1.1, omega arith))
+    (λ c. (c.requires.1.1, omega arith))
     (λ c κs.
-    let i = c.before.before in
-    let s = i.before.before.before.before in
-    (s.requires.0, ((omega (arith, c.before.loop-test.true, s.requires.1.0.0), s.requires.1.0.1), i.loop.invariant.0)))
+    (c.requires.0, ((omega (arith, c.loop-m-test.true, c.requires.1.0.0), c.requires.1.0.1), c.loop-m.invariant.0)))
     (λ c. omega arith)
     (λ c. omega arith)
     (λ c.
-    let r = c.before.before in
-    (r.free-row.ensures, omega (arith, r.before.before.loop-test.true)))
+    (c.free_row.ensures, omega (arith, c.loop-m-test.true)))
     (λ c.
-    let i = c.before in
-    let s = i.before.before.before.before in
-    i.loop.invariant.0.lacking.long ∙ sym s.requires.1.1.lacking.long)
+    c.loop-m.invariant.0.lacking.long ∙ sym c.requires.1.1.lacking.long)
     (λ c.
-    let i = c.before in
-    let s = i.before.before.before.before in
-    let e : i.loop.m ≡ s.args.used = omega (arith, c.loop-test.false, i.loop.invariant.1) in
-    subst (λ (k : ℕ). Freeing s.args.hours s.args.l.now (marked s.args.marks.now) s.args.x s.args.n k i.loop.sums) e i.loop.invariant.0))
+    let e : c.loop-m.m ≡ c.args.used = omega (arith, c.loop-m-test.false, c.loop-m.invariant.1) in
+    subst (λ (k : ℕ). Freeing c.args.hours c.args.l.now (marked c.args.marks.now) c.args.x c.args.n k c.loop-m.sums) e c.loop-m.invariant.0))

@@ -12,25 +12,15 @@ pub freed_spec : {M : Type 1} → statement M
 freed_spec =
     tie.close
     (tie.spec
-    (λ c κs. let s = c.before.before in (sized_at s.requires.0, (in_rows s.requires.0 s.requires.1.0, lit< tt)))
+    (λ c κs. (sized_at c.requires.0, (in_rows c.requires.0 c.requires.1.0, lit< tt)))
     (λ c.
-    let s = c.before.before.before.before in
-    freed_type _ _ (marked s.args.marks.now) s.args.x s.args.n _ (λ t. c.if1.true (c.before.word_at.ensures ∙ t)))
-    (λ c κs. let s = c.before.before.before.before in (sized_at s.requires.0, in_rows s.requires.0 s.requires.1.0))
+    freed_type _ _ (marked c.args.marks.now) c.args.x c.args.n _ (λ t. c.if-word_at-ne-NONFIRM_REDIRECT.true (c.word_at.ensures ∙ t)))
+    (λ c κs. (sized_at c.requires.0, in_rows c.requires.0 c.requires.1.0))
     (λ c.
-    let t = c.before.before in
-    let s = t.before.before.before.before in
-    freed_other _ _ (marked s.args.marks.now) s.args.x _ _ (sym t.before.word_at.ensures ∙ t.if1.false) (λ r. c.if2.true (c.before.related-of.ensures ∙ r)))
-    (λ c κs. let s = c.before.before.before.before.before.before in (sized_at s.requires.0, (in_rows s.requires.0 s.requires.1.0, lit< tt)))
+    freed_other _ _ (marked c.args.marks.now) c.args.x _ _ (sym c.word_at.ensures ∙ c.if-word_at-ne-NONFIRM_REDIRECT.false) (λ r. c.if-related_of-n.true (c.related_of.ensures ∙ r)))
+    (λ c κs. (sized_at c.requires.0, (in_rows c.requires.0 c.requires.1.0, lit< tt)))
     (λ c.
-    let r = c.before.before in
-    let t = r.before.before in
-    let s = t.before.before.before.before in
-    freed_own _ _ (marked s.args.marks.now) _ _ _ (sym t.before.word_at.ensures ∙ t.if1.false) (sym r.before.related-of.ensures ∙ r.if2.false) (sym c.before.word-at2.ensures ∙ c.if3.true))
-    (λ c κs. let s = c.before.before.before.before.before.before.before.before in (sized_at s.requires.0, (in_rows s.requires.0 s.requires.1.0, s.requires.1.1)))
+    freed_own _ _ (marked c.args.marks.now) _ _ _ (sym c.word_at.ensures ∙ c.if-word_at-ne-NONFIRM_REDIRECT.false) (sym c.related_of.ensures ∙ c.if-related_of-n.false) (sym c.word_at-2.ensures ∙ c.if-word_at-x.true))
+    (λ c κs. (sized_at c.requires.0, (in_rows c.requires.0 c.requires.1.0, c.requires.1.1)))
     (λ c.
-    let p = c.before in
-    let r = p.before.before in
-    let t = r.before.before in
-    let s = t.before.before.before.before in
-    freed_by _ _ (marked s.args.marks.now) _ _ _ (sym t.before.word_at.ensures ∙ t.if1.false) (sym r.before.related-of.ensures ∙ r.if2.false) (λ e. p.if3.false (p.before.word-at2.ensures ∙ e)) c.stays.ensures))
+    freed_by _ _ (marked c.args.marks.now) _ _ _ (sym c.word_at.ensures ∙ c.if-word_at-ne-NONFIRM_REDIRECT.false) (sym c.related_of.ensures ∙ c.if-related_of-n.false) (λ e. c.if-word_at-x.false (c.word_at-2.ensures ∙ e)) c.stays.ensures))

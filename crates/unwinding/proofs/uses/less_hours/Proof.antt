@@ -22,7 +22,7 @@ less_hours_spec =
     (λ c. search rules)
     (λ c. search rules)
     (λ c. search rules)
-    (λ c. omega (arith, (sized_at c.before.before.before.requires.0).long))
+    (λ c. omega (arith, (sized_at c.requires.0).long))
     (λ c κs. search rules)
     (λ c. search rules)
     (λ c. search rules)
@@ -30,18 +30,12 @@ less_hours_spec =
     (λ c. search rules)
     (λ c. search rules)
     (λ c κs.
-    let h = c.before.before in
-    let r = h.before.before in
-    let s = r.before.before.before in (
-      lent_long s.requires.0 r.row_at.ensures h.hours_at.ensures ∙ sym s.requires.1.1.long,
-      ap (λ (v : List ℕ). covered v s.args.sums.now) (lent_hours s.requires.0 r.row_at.ensures h.hours_at.ensures)
-          ∙ hours_held s.requires.0 s.args.n s.args.p s.requires.1.0.0 s.requires.1.0.1 s.requires.1.1,
+    (
+      lent_long c.requires.0 c.row_at-at.ensures c.hours_at-from.ensures ∙ sym c.requires.1.1.long,
+      ap (λ (v : List ℕ). covered v c.args.sums.now) (lent_hours c.requires.0 c.row_at-at.ensures c.hours_at-from.ensures)
+          ∙ hours_held c.requires.0 c.args.n c.args.p c.requires.1.0.0 c.requires.1.0.1 c.requires.1.1,
     ))
     (λ c. search rules)
     (λ c.
-    let d = c.before.before in
-    let h = d.before.before.before in
-    let r = h.before.before in
-    let s = r.before.before.before in
-    hours_taken s.requires.0 s.args.n s.args.p s.requires.1.0.0 s.requires.1.0.1 s.requires.1.1
-    (d.subtract.ensures ∙ ap (λ (v : List ℕ). zip2 ◌-◌ s.args.sums.now v) (lent_hours s.requires.0 r.row_at.ensures h.hours_at.ensures))))
+    hours_taken c.requires.0 c.args.n c.args.p c.requires.1.0.0 c.requires.1.0.1 c.requires.1.1
+    (c.subtract.ensures ∙ ap (λ (v : List ℕ). zip2 ◌-◌ c.args.sums.now v) (lent_hours c.requires.0 c.row_at-at.ensures c.hours_at-from.ensures))))

@@ -27,23 +27,15 @@ shift_spec =
     tie.close
     (tie.spec
     (λ c.
-    let s = c.before.before.before in
-    shifted_as (and_left s.args.counted s.args.back c.if1.true) (and_right s.args.counted s.args.back c.if1.true) (shifted_not true))
+    shifted_as (and_left c.args.counted c.args.back c.if-counted-back.true) (and_right c.args.counted c.args.back c.if-counted-back.true) (shifted_not true))
     (λ c κs.
-    let s = c.before.before.before.before.before in
-    (s.requires.0, ((s.requires.1.0, lit< tt), held c.before.if2.true s.requires.1.1.1)))
+    (c.requires.0, ((c.requires.1.0, lit< tt), held c.if-counted.true c.requires.1.1.1)))
     (λ c. search rules)
     (λ c.
-    let r = c.before.before in
-    let t = r.before.before in
-    let s = t.before.before.before.before in
-    shifted_as t.if2.true (not_back t.before.if1.false t.if2.true) (shifted_off (held t.if2.true s.requires.1.1.1) r.less-hours.ensures))
+    shifted_as c.if-counted.true (not_back c.if-counted-back.false c.if-counted.true) (shifted_off (held c.if-counted.true c.requires.1.1.1) c.less_hours.ensures))
     (λ c κs.
-    let s = c.before.before.before.before.before.before in
-    (s.requires.0, ((s.requires.1.0, lit< tt), sums_wider (omega arith) s.requires.1.1.0)))
+    (c.requires.0, ((c.requires.1.0, lit< tt), sums_wider (omega arith) c.requires.1.1.0)))
     (λ c. search rules)
     (λ c.
-    let r = c.before.before in
-    let t = r.before.before in
-    shifted_as t.before.if2.false t.if3.true (shifted_on r.add-hours.ensures))
-    (λ c. shifted_as c.before.if2.false c.if3.false (shifted_not false)))
+    shifted_as c.if-counted.false c.if-back.true (shifted_on c.add_hours.ensures))
+    (λ c. shifted_as c.if-counted.false c.if-back.false (shifted_not false)))

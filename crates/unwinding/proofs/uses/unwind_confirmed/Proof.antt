@@ -12,33 +12,21 @@ pub unwind_confirmed_spec : {M : Type 1} → statement M
 unwind_confirmed_spec =
     tie.close
     (tie.spec
-    (λ c κs. let s = c.before.before.before.before in (s.requires.0, (s.requires.1.1.0.0.row, s.requires.1.0.1)))
-    (λ c κs. let s = c.before.before.before.before.before.before.before in (s.requires.0, (s.requires.1.0, s.requires.1.1)))
-    (λ c. let s = c.before.before.before.before.before.before.before.before.before.before in omega (arith, few s.requires.0, s.requires.1.1.0.0.row))
-    (λ c. let s = c.before.before.before.before.before.before.before.before.before.before in omega (arith, few s.requires.0, s.requires.1.1.0.0.row, s.requires.1.0.1))
+    (λ c κs. (c.requires.0, (c.requires.1.1.0.0.row, c.requires.1.0.1)))
+    (λ c κs. (c.requires.0, (c.requires.1.0, c.requires.1.1)))
+    (λ c. omega (arith, few c.requires.0, c.requires.1.1.0.0.row))
+    (λ c. omega (arith, few c.requires.0, c.requires.1.1.0.0.row, c.requires.1.0.1))
     (λ c κs.
-    let s = c.before.before.before.before.before.before.before.before.before.before.before in
-    (s.requires.0, (s.requires.1.1.0.0.row, length-set s.args.marks.now s.args.n 1 ∙ s.requires.1.0.1)))
+    (c.requires.0, (c.requires.1.1.0.0.row, length-set c.args.marks.now c.args.n 1 ∙ c.requires.1.0.1)))
     (λ c κs.
-    let f = c.before.before.before.before.before in
-    let n = f.before.before.before in
-    let s = n.before.before.before.before.before in
-    let p = s.requires.1.1.0 in
-    (s.requires.0, (p.0.row, (shift_room s.requires.0 p.0 s.args.x p.1 f.free-redirects.ensures, shift_holds s.requires.0 p.0 s.args.x p.1 f.free-redirects.ensures n.counts.ensures))))
+    let p = c.requires.1.1.0 in
+    (c.requires.0, (p.0.row, (shift_room c.requires.0 p.0 c.args.x p.1 c.free_redirects.ensures, shift_holds c.requires.0 p.0 c.args.x p.1 c.free_redirects.ensures c.counts-counted.ensures))))
     (λ c.
-    let h = c.before.before in
-    let f = h.before.before.before.before.before.before in
-    let s = f.before.before.before.before.before.before.before.before in
-    h.shift.auto.0 ∙ f.free-redirects.auto.0)
+    let s = c in
+    c.shift.auto.sums ∙ c.free_redirects.auto.sums)
     (λ c.
-    let s = c.before.before.before.before.before.before.before.before.before.before.before.before.before.before.before.before in
-    length-set s.args.marks.now s.args.n 1)
+    length-set c.args.marks.now c.args.n 1)
     (λ c.
-    let h = c.before.before in
-    let b = h.before.before in
-    let f = b.before.before.before.before in
-    let n = f.before.before.before in
-    let s = n.before.before.before.before.before in
-    let p = s.requires.1.1.0 in
-    let u : s.args.n < length s.args.marks.now = omega (arith, few s.requires.0, p.0.row, s.requires.1.0.1) in
-    (refl, shift_done s.requires.0 p.0 s.args.x p.1 f.free-redirects.ensures n.counts.ensures (came_is s.args.hours s.args.l.now s.args.marks.now s.args.x s.args.n u b.came-back.ensures) h.shift.ensures)))
+    let p = c.requires.1.1.0 in
+    let u : c.args.n < length c.args.marks.now = omega (arith, few c.requires.0, p.0.row, c.requires.1.0.1) in
+    (refl, shift_done c.requires.0 p.0 c.args.x p.1 c.free_redirects.ensures c.counts-counted.ensures (came_is c.args.hours c.args.l.now c.args.marks.now c.args.x c.args.n u c.came_back-back.ensures) c.shift.ensures)))
