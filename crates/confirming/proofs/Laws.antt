@@ -10,7 +10,7 @@ use Rattle.words.specs.Lists.{covered, noughts}
 use Rattle.words.proofs.Laws.{noughts_length, splice_before}
 use Rattle.rules.specs.Pick.{◌gives◌else◌}
 use Rattle.rules.specs.Numbers.{row_words, profiles, available_part, RELINQUISH}
-use Rattle.rules.specs.Layout.{hours, row_size, row, on_row, reqtype, start, related_row, has, hour_at, hours_of, set_hours, clear_hours}
+use Rattle.rules.specs.Layout.{row_size, row, on_row, reqtype, start, related_row, hour_at, hours_of, set_hours, clear_hours}
 use Rattle.rules.specs.Megawatts.{take_from, give_back}
 use Rattle.rules.specs.Confirming.{emptied, confirm_relinquish, unapproved, unconfirmed, short, partial, drawn_from, confirm_number}
 use Rattle.rules.proofs.Types.{derived_type}

@@ -13,7 +13,7 @@ use Rattle.words.specs.Lists.{part, splice, zip2, covered, roomy, most_word, Apa
 use Rattle.words.proofs.Laws.{lt_or_le, lent, part_length, all_below_lem, roomy_at, zip_length}
 use Rattle.rules.specs.Pick.{pick}
 use Rattle.rules.specs.Numbers.{row_words, profiles, most_hours, most_megawatts, available_part, displaced_part, reduced_part, requested_part, granted_part, granted_given, RELINQUISH}
-use Rattle.rules.specs.Layout.{rows, hours, row_base, row_size, row, on_row, reqtype, start, stop, related_row, has, hour_at, hours_of, span_hours, span, requested, granted, available, displaced, reduced, set_hours, add_hours, less_hours, Sized}
+use Rattle.rules.specs.Layout.{rows, row_base, row_size, row, on_row, reqtype, start, stop, related_row, has, hour_at, hours_of, span_hours, span, requested, granted, available, displaced, reduced, set_hours, add_hours, less_hours, Sized}
 use Rattle.rules.specs.Sound.{original}
 use Rattle.rules.specs.Megawatts.{in_force, take_from, returns_to, give_back}
 use Rattle.rules.proofs.Types.{derived_least}

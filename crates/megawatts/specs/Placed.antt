@@ -1,6 +1,6 @@
 -- For contracts inside the crates: a row in use, and where the words of its profiles lie. No promise to the outside names these.
 use Rattle.std.specs.Prelude.{◌≡◌, List, ℕ, ◌+◌, ◌≤◌, ◌<◌, length}
-use Rattle.rules.specs.Layout.{rows, hours, used, row_base, row, hour_at}
+use Rattle.rules.specs.Layout.{rows, hours, used, row_base, hour_at}
 use Rattle.rules.proofs.Formed.{Formed}
 use Rattle.layout.specs.Places.{longest}
 

@@ -35,7 +35,6 @@ use Rattle.rules.proofs.Over.{over_confirming, over_reducing}
 use Rattle.rules.proofs.Over as O
 use Rattle.layout.specs.SoundAt.{SoundAt}
 use Rattle.megawatts.specs.Placed.{Placed}
-use Rattle.megawatts.proofs.Laws.{sized}
 use Rattle.provider.specs.Waiting.{Waiting}
 
 -- ---- a reference that was issued

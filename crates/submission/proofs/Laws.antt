@@ -12,7 +12,7 @@ use Rattle.words.specs.Lists.{splice}
 use Rattle.words.proofs.Laws.{lent}
 use Rattle.rules.specs.Pick.{pick, ◌among◌}
 use Rattle.rules.specs.Numbers.{row_words, requested_part}
-use Rattle.rules.specs.Layout.{rows, hours, provider, used, issued, row_of, row, reqtype, set_hours}
+use Rattle.rules.specs.Layout.{hours, provider, used, issued, row_of, row, reqtype, set_hours}
 use Rattle.rules.specs.Sound.{resold, redirect, firm, relates, inside}
 use Rattle.rules.specs.Moves.{is_confirmed}
 use Rattle.rules.specs.Megawatts.{carries_over}

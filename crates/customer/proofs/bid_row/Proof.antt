@@ -6,7 +6,6 @@ use native.Mathlib.Omega.{arith}
 use lib.Dec.{lit<}
 use lib.ListN.{length-set}
 use borrow.Author.Rules.{rules}
-use borrow.Author.Tests.{not-true, not-false}
 use Rattle.words.proofs.Laws.{lent, lent_length}
 use Rattle.rules.specs.Numbers.{requested_part}
 use Rattle.rules.specs.Layout.{start, span_hours, set_bid, set_hours}

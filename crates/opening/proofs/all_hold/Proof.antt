@@ -1,7 +1,6 @@
 -- `opening::all_hold` meets its contract.
 use mathlib.Core.Path.{sym, ◌∙◌}
 use borrow.Author.Rules.{rules}
-use borrow.Author.Tests.{not-true, not-false}
 use Rattle.rules.proofs.Picks.{and_stops, and_goes}
 use Rattle.opening.proofs.Added.{rows_told, trees_told}
 use Rattle.opening.proofs.all_hold.Statement.{statement}

@@ -6,7 +6,6 @@ use Prim.Native.Nat.{ℕ, ◌≤◌}
 use native.Mathlib.Omega.{arith}
 use lib.ListN.{length}
 use borrow.Author.Rules.{rules}
-use borrow.Author.Tests.{not-true, not-false}
 use Rattle.words.specs.Lists.{all_below}
 use Rattle.rules.specs.Pick.{◌gives◌else◌}
 use Rattle.rules.specs.Layout.{rows, hours, used}

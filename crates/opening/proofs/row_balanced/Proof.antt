@@ -1,6 +1,5 @@
 -- `opening::row_balanced` meets its contract.
 use borrow.Author.Rules.{rules}
-use borrow.Author.Tests.{not-true, not-false}
 use Rattle.layout.proofs.SoundAt.{sized_at}
 use Rattle.opening.proofs.Added.{in_rows, told, untold}
 use Rattle.opening.proofs.row_balanced.Statement.{statement}

@@ -3,7 +3,6 @@ use mathlib.Core.Path.{◌≡◌, sym, ◌∙◌}
 use Prim.Native.Nat.{◌-◌}
 use native.Mathlib.Omega.{arith}
 use lib.ListN.{length}
-use borrow.Author.Tests.{not-true, not-false}
 use Rattle.words.proofs.Laws.{Passing, passing_start, passing_turn, passing_done, passing_fails}
 use Rattle.opening.specs.Shares.{balanced_by}
 use Rattle.opening.proofs.rows_balanced.Statement.{statement}

@@ -18,8 +18,7 @@ empty_row_spec =
     tie.close
     (tie.spec
     (λ c κs. search rules)
-    (λ c κs.
-    (
+    (λ c κs. (
       record { long = c.clear_hours.auto.r ∙ c.requires.0.long; fits = c.requires.0.fits },
       (c.requires.1.0, omega (arith, ap (λ (x : List ℕ). get_or x 7 0) c.clear_hours.ensures, clear_word c.args.hours c.args.start (length c.args.mw.now) c.args.r.now c.requires.0.long c.requires.0.fits available_part (lit< tt) 7 (lit< tt), c.requires.1.1)),
     ))

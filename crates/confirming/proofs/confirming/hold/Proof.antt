@@ -22,8 +22,7 @@ hold_spec =
     (λ c. search rules)
     (λ c. search rules)
     (λ c. search rules)
-    (λ c κs.
-    (
+    (λ c κs. (
       record { long = row_lent_length c.requires.0 c.row_at-at.ensures; fits = omega arith },
       (c.requires.0.hours, omega (arith, ap (λ (r : List ℕ). get_or r 7 0) (row_lent c.requires.0 c.row_at-at.ensures), c.requires.1.1)),
     ))

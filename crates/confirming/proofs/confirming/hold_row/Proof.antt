@@ -18,8 +18,7 @@ hold_row_spec =
     tie.close
     (tie.spec
     (λ c κs. search rules)
-    (λ c κs.
-    (
+    (λ c κs. (
       record { long = c.set_hours.auto.r ∙ c.requires.0.long; fits = c.requires.0.fits },
       (c.requires.1.0, omega (arith, ap (λ (x : List ℕ). get_or x 7 0) c.set_hours.ensures, set_word c.requires.0 available_part (lit< tt) 7 (lit< tt), c.requires.1.1)),
     ))

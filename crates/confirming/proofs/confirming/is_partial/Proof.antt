@@ -4,7 +4,7 @@ use mathlib.Core.Bool.{true, not}
 use Prim.Native.Nat.{ℕ, ◌+◌, ◌<◌, ◌≤◌}
 use native.Mathlib.Omega.{arith}
 use lib.ListN.{length}
-use borrow.Author.Tests.{not-true, not-false, eq-eqb, ne_eqb}
+use borrow.Author.Tests.{eq-eqb, ne_eqb}
 use Rattle.rules.specs.Numbers.{FULL_TRANSFER}
 use Rattle.rules.specs.Layout.{row, reqtype, related_row}
 use Rattle.rules.specs.Confirming.{drawn_from, same_span, partial}

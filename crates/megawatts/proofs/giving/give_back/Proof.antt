@@ -22,8 +22,7 @@ give_back_spec =
     (λ c. search rules)
     (λ c. search rules)
     (λ c. search rules)
-    (λ c κs.
-    (
+    (λ c κs. (
       record { long = row_lent_length c.requires.0 c.row_at-at.ensures; fits = omega arith },
       (c.requires.0.hours, ap (λ (r : List ℕ). full c.args.hours c.args.start c.args.mw.now r) (row_lent c.requires.0 c.row_at-at.ensures) ∙ c.requires.1.1),
     ))

@@ -27,8 +27,7 @@ take_from_spec =
     (λ c. search rules)
     (λ c. search rules)
     (λ c. search rules)
-    (λ c κs.
-    (
+    (λ c κs. (
       record { long = row_lent_length c.requires.0 c.row_at-at.ensures; fits = omega arith },
       ((c.requires.0.hours, lit< tt), ap (λ (r : List ℕ). covered c.args.mw.now (hours_of c.args.hours available_part c.args.start (length c.args.mw.now) r)) (row_lent c.requires.0 c.row_at-at.ensures) ∙ c.requires.1.1),
     ))

@@ -1,7 +1,7 @@
 -- `megawatts::moving::reduce_row` meets its contract.
 use mathlib.Core.Path.{sym, ap, subst, ◌∙◌}
 use mathlib.Core.List.{List}
-use Prim.Native.Nat.{ℕ, ◌<◌}
+use Prim.Native.Nat.{ℕ}
 use lib.Dec.{lit<}
 use lib.ListN.{length}
 use borrow.Author.Rules.{rules}

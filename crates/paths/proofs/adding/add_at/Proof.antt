@@ -19,8 +19,7 @@ add_at_spec =
     (λ c. search rules)
     (λ c. search rules)
     (λ c. search rules)
-    (λ c κs.
-    (
+    (λ c κs. (
       sym (lent_length c.args.sums.now c.args.start c.args.start (length c.args.v.now) refl c.requires.fits),
       ap (λ (x : List ℕ). roomy most_word c.args.v.now x) (lent c.args.sums.now c.args.start c.args.start (length c.args.v.now) refl c.requires.fits) ∙ adding_room c.requires,
     ))

@@ -19,8 +19,7 @@ less_at_spec =
     (λ c. search rules)
     (λ c. search rules)
     (λ c. search rules)
-    (λ c κs.
-    (
+    (λ c κs. (
       sym (lent_length c.args.sums.now c.args.start c.args.start (length c.args.v.now) refl c.requires.fits),
       ap (λ (x : List ℕ). covered c.args.v.now x) (lent c.args.sums.now c.args.start c.args.start (length c.args.v.now) refl c.requires.fits) ∙ taking_enough c.requires,
     ))

@@ -3,7 +3,6 @@ use mathlib.Core.Path.{ap}
 use native.Mathlib.Omega.{arith}
 use lib.ListN.{length}
 use borrow.Author.Rules.{rules}
-use borrow.Author.Tests.{not-true, not-false}
 use Rattle.megawatts.proofs.Laws.{sized, own_length}
 use Rattle.paths.proofs.Counts.{counts_not, counts_own, counts_none, counts_above, above_in}
 use Rattle.paths.proofs.counting.counts.Statement.{statement}

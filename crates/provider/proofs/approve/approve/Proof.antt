@@ -4,7 +4,6 @@ use mathlib.Core.Bool.{true}
 use mathlib.Core.List.{List}
 use Prim.Native.Nat.{ℕ}
 use borrow.Author.Rules.{rules}
-use borrow.Author.Tests.{not-true, not-false}
 use Rattle.rules.specs.Numbers.{approved, ACCEPTED}
 use Rattle.rules.specs.Layout.{row, on_row, raise}
 use Rattle.rules.specs.Megawatts.{in_force}

@@ -4,7 +4,6 @@ use mathlib.Core.Bool.{Bool}
 use mathlib.Core.List.{List}
 use Prim.Native.Nat.{ℕ}
 use borrow.Author.Rules.{rules}
-use borrow.Author.Tests.{not-true, not-false}
 use Rattle.rules.specs.Pick.{◌gives◌else◌, ◌only_if◌}
 use Rattle.rules.specs.Numbers.{approved}
 use Rattle.rules.specs.Layout.{row, has_flag, has}

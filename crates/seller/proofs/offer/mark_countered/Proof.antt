@@ -3,7 +3,6 @@ use mathlib.Core.Path.{refl, sym, ap, ◌∙◌}
 use Prim.Native.Nat.{ℕ}
 use lib.ListN.{set}
 use borrow.Author.Rules.{rules}
-use borrow.Author.Tests.{not-true, not-false}
 use Rattle.rules.proofs.Picks.{hit_by, skip}
 use Rattle.seller.proofs.offer.mark_countered.Statement.{statement}
 use Rattle.seller.proofs.offer.mark_countered.Tie as tie

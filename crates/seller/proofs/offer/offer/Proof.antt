@@ -4,7 +4,6 @@ use mathlib.Core.List.{List}
 use Prim.Native.Nat.{ℕ, ◌+◌}
 use native.Mathlib.Omega.{arith}
 use borrow.Author.Rules.{rules}
-use borrow.Author.Tests.{not-true, not-false}
 use Rattle.rules.specs.Pick.{when}
 use Rattle.rules.specs.Layout.{window, clock, row, on_row}
 use Rattle.rules.specs.Confirming.{confirm, short}

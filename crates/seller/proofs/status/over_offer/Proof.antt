@@ -5,7 +5,6 @@ use Prim.Native.Nat.{ℕ, ◌+◌, ◌-◌}
 use native.Mathlib.Omega.{arith}
 use lib.ListN.{length, take, drop}
 use borrow.Author.Rules.{rules}
-use borrow.Author.Tests.{not-true, not-false}
 use Rattle.rules.specs.Layout.{row, span_hours}
 use Rattle.rules.specs.SellerStatus.{granted_after}
 use Rattle.rules.proofs.Picks.{and_stops, and_goes}

@@ -2,10 +2,9 @@
 use mathlib.Core.Path.{◌≡◌, sym, ap, ◌∙◌}
 use Prim.Native.Nat.{ℕ}
 use borrow.Author.Rules.{rules}
-use borrow.Author.Tests.{not-true, not-false}
 use Rattle.rules.specs.Layout.{row}
 use Rattle.rules.specs.Checks.{named_row}
-use Rattle.rules.specs.SellerStatus.{offers, annuls_confirmed}
+use Rattle.rules.specs.SellerStatus.{annuls_confirmed}
 use Rattle.rules.proofs.Picks.{hit_by, skip, and_stops, and_goes}
 use Rattle.rules.proofs.Passed.{seller_status_passed}
 use Rattle.rules.proofs.After.{use_annulling}

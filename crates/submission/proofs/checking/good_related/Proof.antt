@@ -2,7 +2,6 @@
 use mathlib.Core.Path.{sym, ◌∙◌}
 use native.Mathlib.Omega.{arith}
 use borrow.Author.Rules.{rules}
-use borrow.Author.Tests.{not-true, not-false}
 use Rattle.rules.specs.Submit.{good_related}
 use Rattle.rules.proofs.Picks.{and_stops}
 use Rattle.layout.proofs.Lent.{row_lent, row_lent_length}

@@ -5,7 +5,6 @@ use Prim.Native.Nat.{ℕ}
 use native.Mathlib.Omega.{arith}
 use lib.Dec.{eqb, lit<}
 use borrow.Author.Rules.{rules}
-use borrow.Author.Tests.{not-true, not-false}
 use Rattle.rules.specs.Layout.{issued, row, path}
 use Rattle.rules.specs.Submit.{unfit_path}
 use Rattle.rules.proofs.Picks.{and_stops, and_goes}
