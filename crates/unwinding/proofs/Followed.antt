@@ -14,7 +14,7 @@ use Rattle.words.specs.Lists.{word_at, sum_below, zip2, covered}
 use Rattle.words.proofs.Laws.{all_below_lem, sum_none, sum_more, build_at, zip_length}
 use Rattle.rules.specs.Pick.{pick}
 use Rattle.rules.specs.Numbers.{profiles, most_megawatts, granted_part, available_part}
-use Rattle.rules.specs.Layout.{hours, used, row, path, related_row, hour_at, hours_of}
+use Rattle.rules.specs.Layout.{used, row, path, related_row, hour_at, hours_of}
 use Rattle.rules.specs.Moves.{is_confirmed}
 use Rattle.rules.proofs.After.{counts_by}
 use Rattle.rules.proofs.Unwound.{adding, stays, gives, use_unwound}

@@ -7,7 +7,7 @@ use Prim.Native.Nat.{ℕ, ◌*◌, ◌≤◌}
 use native.Mathlib.Omega.{arith}
 use lib.ListN.{length}
 use Rattle.words.proofs.Laws.{and_left, and_right}
-use Rattle.rules.specs.Layout.{rows, hours, used}
+use Rattle.rules.specs.Layout.{rows, hours}
 use Rattle.rules.specs.Sound.{sound}
 use Rattle.rules.specs.Act.{sound_both}
 use Rattle.rules.specs.Annulments.{annuls_in_order}

@@ -5,7 +5,6 @@ use Prim.Native.Nat.{◌≤◌}
 use native.Mathlib.Omega.{arith}
 use lib.ListN.{length}
 use borrow.Author.Rules.{rules}
-use borrow.Author.Tests.{not-true, not-false}
 use Rattle.rules.specs.Act.{sound_both}
 use Rattle.rules.proofs.Listed.{longer_is_no}
 use Rattle.layout.proofs.SoundAt.{head_fits}

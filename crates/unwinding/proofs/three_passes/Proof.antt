@@ -2,7 +2,6 @@
 use mathlib.Core.Path.{◌≡◌, sym, ◌∙◌}
 use mathlib.Core.Bool.{true}
 use borrow.Author.Rules.{rules}
-use borrow.Author.Tests.{not-true, not-false}
 use Rattle.unwinding.specs.Order.{all_movable}
 use Rattle.unwinding.proofs.Judged.{postings_at, moved_not, fitted_not, carried_is}
 use Rattle.unwinding.proofs.three_passes.Statement.{statement}

@@ -3,7 +3,6 @@ use mathlib.Core.Path.{sym, ◌∙◌}
 use native.Mathlib.Omega.{arith}
 use lib.Dec.{lit<}
 use borrow.Author.Rules.{rules}
-use borrow.Author.Tests.{not-true, not-false}
 use Rattle.layout.proofs.SoundAt.{sized_at}
 use Rattle.paths.proofs.Hourly.{adds_as, adds_none}
 use Rattle.opening.proofs.Added.{in_rows, few, sums_wider}

@@ -6,7 +6,6 @@ use Prim.Native.Nat.{ℕ, ◌<◌}
 use native.Mathlib.Omega.{arith}
 use lib.Dec.{eqb, lit<}
 use borrow.Author.Rules.{rules}
-use borrow.Author.Tests.{not-true, not-false}
 use Rattle.rules.specs.Layout.{row, reqtype, path}
 use Rattle.rules.specs.Sound.{original}
 use Rattle.rules.specs.Moves.{is_confirmed}

@@ -5,7 +5,6 @@ use Prim.Native.Nat.{◌-◌, ◌<◌}
 use native.Mathlib.Omega.{arith}
 use lib.ListN.{length}
 use borrow.Author.Rules.{rules}
-use borrow.Author.Tests.{not-true, not-false}
 use Rattle.words.specs.Lists.{word_at}
 use Rattle.words.proofs.Laws.{passing_done, passing_fails}
 use Rattle.rules.specs.Layout.{row_of}

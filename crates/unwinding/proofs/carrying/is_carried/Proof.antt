@@ -3,7 +3,6 @@ use mathlib.Core.Path.{sym, ap, ◌∙◌}
 use mathlib.Core.Bool.{not}
 use native.Mathlib.Omega.{arith}
 use borrow.Author.Rules.{rules}
-use borrow.Author.Tests.{not-true, not-false}
 use Rattle.words.proofs.Laws.{lent_length}
 use Rattle.rules.specs.Paths.{posting_at}
 use Rattle.rules.proofs.Picks.{or_stops, or_goes}

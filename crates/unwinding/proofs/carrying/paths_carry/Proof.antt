@@ -5,7 +5,6 @@ use Prim.Native.Nat.{ℕ, suc, ◌+◌, ◌-◌}
 use native.Mathlib.Numerals.{add-one}
 use native.Mathlib.Omega.{arith}
 use lib.ListN.{length}
-use borrow.Author.Tests.{not-true, not-false}
 use Rattle.words.proofs.Laws.{Passing, passing_start, passing_turn, passing_done, passing_fails}
 use Rattle.rules.specs.Numbers.{most_path, most_rows}
 use Rattle.paths.specs.Exceeding.{Path}

@@ -4,7 +4,6 @@ use mathlib.Core.Bool.{not, ◌||◌}
 use Prim.Native.Nat.{◌-◌}
 use native.Mathlib.Omega.{arith}
 use lib.ListN.{length}
-use borrow.Author.Tests.{not-true, not-false}
 use Rattle.words.specs.Lists.{all_below}
 use Rattle.words.proofs.Laws.{Passing, passing_start, passing_turn, passing_done, passing_fails}
 use Rattle.rules.proofs.Unwound.{fits_in}

@@ -4,7 +4,6 @@ use mathlib.Core.Logic.{◌≢◌}
 use mathlib.Core.Bool.{true}
 use native.Mathlib.Omega.{arith}
 use lib.Dec.{lit<}
-use borrow.Author.Tests.{not-true, not-false}
 use Rattle.rules.specs.Layout.{row, path}
 use Rattle.rules.proofs.Unwound.{stays}
 use Rattle.layout.proofs.SoundAt.{sized_at}

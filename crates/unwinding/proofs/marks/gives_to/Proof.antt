@@ -3,7 +3,6 @@ use mathlib.Core.Path.{sym, ap, ◌∙◌}
 use Prim.Native.Nat.{ℕ}
 use lib.Dec.{eqb}
 use borrow.Author.Rules.{rules}
-use borrow.Author.Tests.{not-true, not-false}
 use Rattle.rules.proofs.Picks.{and_stops, goes}
 use Rattle.rules.proofs.Unwound.{gives_to}
 use Rattle.unwinding.proofs.marks.gives_to.Statement.{statement}

@@ -2,7 +2,6 @@
 use mathlib.Core.Path.{sym, ◌∙◌}
 use native.Mathlib.Omega.{arith}
 use borrow.Author.Rules.{rules}
-use borrow.Author.Tests.{not-true, not-false}
 use Rattle.unwinding.proofs.Counted.{stays_not, stays_by}
 use Rattle.unwinding.proofs.marks.stays.Statement.{statement}
 use Rattle.unwinding.proofs.marks.stays.Tie as tie

@@ -5,7 +5,6 @@ use Prim.Native.Nat.{◌-◌, ◌<◌}
 use native.Mathlib.Omega.{arith}
 use lib.ListN.{length}
 use borrow.Author.Rules.{rules}
-use borrow.Author.Tests.{not-true, not-false}
 use Rattle.words.proofs.Laws.{noughts_length}
 use Rattle.rules.specs.Numbers.{most_rows}
 use Rattle.rules.specs.Layout.{used as used_rows}

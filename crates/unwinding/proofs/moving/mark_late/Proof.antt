@@ -5,7 +5,6 @@ use Prim.Native.Nat.{ℕ, ◌<◌}
 use native.Mathlib.Omega.{arith}
 use lib.ListN.{set}
 use borrow.Author.Rules.{rules}
-use borrow.Author.Tests.{not-true, not-false}
 use Rattle.rules.specs.Layout.{used as used_rows}
 use Rattle.rules.proofs.Picks.{skip, hit_by}
 use Rattle.rules.proofs.Unwound.{gives}

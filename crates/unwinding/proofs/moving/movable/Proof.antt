@@ -5,7 +5,6 @@ use mathlib.Core.List.{List}
 use Prim.Native.Nat.{ℕ, ◌<◌}
 use native.Mathlib.Omega.{arith}
 use borrow.Author.Rules.{rules}
-use borrow.Author.Tests.{not-true, not-false}
 use Rattle.rules.specs.Numbers.{ANNULLED}
 use Rattle.rules.specs.Layout.{used as used_rows, issued, row}
 use Rattle.rules.specs.Moves.{seller_may}

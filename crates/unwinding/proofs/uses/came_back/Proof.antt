@@ -2,7 +2,6 @@
 use mathlib.Core.Path.{sym, ap, ◌∙◌}
 use Prim.Native.Nat.{ℕ}
 use native.Mathlib.Omega.{arith}
-use borrow.Author.Tests.{not-true, not-false}
 use Rattle.rules.proofs.Picks.{and_stops, goes}
 use Rattle.rules.proofs.After.{counts_by}
 use Rattle.rules.proofs.Unwound.{stays}

@@ -29,8 +29,7 @@ less_hours_spec =
     (λ c. search rules)
     (λ c. search rules)
     (λ c. search rules)
-    (λ c κs.
-    (
+    (λ c κs. (
       lent_long c.requires.0 c.row_at-at.ensures c.hours_at-from.ensures ∙ sym c.requires.1.1.long,
       ap (λ (v : List ℕ). covered v c.args.sums.now) (lent_hours c.requires.0 c.row_at-at.ensures c.hours_at-from.ensures)
           ∙ hours_held c.requires.0 c.args.n c.args.p c.requires.1.0.0 c.requires.1.0.1 c.requires.1.1,

@@ -8,7 +8,6 @@ use lib.Dec.{lit<}
 use borrow.Author.Rules.{rules}
 use Rattle.words.proofs.Laws.{and_left, and_right}
 use Rattle.rules.specs.Pick.{pick}
-use Rattle.rules.specs.Layout.{row}
 use Rattle.opening.proofs.Added.{sums_wider}
 use Rattle.unwinding.specs.Uses.{Holding}
 use Rattle.unwinding.proofs.Followed.{shifted_not, shifted_off, shifted_on, shifted_as}
