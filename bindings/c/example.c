@@ -2,7 +2,8 @@
  * Document 01's day at the desk on two posted paths, through the library: prints
  * its 14 lines, and exits with status 1 where a line or a word left behind differs,
  * or the ledger left behind does not open. Then its resale is contested and its chain
- * unwound, each on another ledger and without a line.
+ * unwound, each on another ledger, and stamps are read, written and compared, all
+ * without a line.
  *
  *   cc -std=c11 -o example example.c -L<archive> -lluddrisa
  */
@@ -19,7 +20,8 @@ enum {
     LEDGER_WORDS = 8 + ROWS * ROW_WORDS,
     POSTING_WORDS = 64 * HOURS,
     POSTS = 2,
-    ACTIONS = 14
+    ACTIONS = 14,
+    STAMP_BYTES = 16
 };
 
 /* Profiles one after the other. */
@@ -146,6 +148,35 @@ static int unwinds(void)
     return differences;
 }
 
+/* A customer's stamp, and the reply ten minutes later: how many answers and bytes differ
+ * from what they should be. */
+static int stamps(void)
+{
+    static const uint8_t asked[] = "20070423060000ES";
+    static const uint8_t in_daylight_time[] = "20070423070000ED";
+    static const uint8_t second_70[] = "20070423220070ES";
+    static const uint32_t es = 1;
+    uint8_t reply[STAMP_BYTES] = {0};
+    uint32_t second;
+    uint32_t order;
+    int differences = 0;
+
+    differences += luddrisa_read_stamp(asked, STAMP_BYTES, &second) != 0 || second != 230641200;
+    differences += luddrisa_write_stamp(reply, STAMP_BYTES, second + 600, es) != 0 ||
+                   memcmp(reply, "20070423061000ES", STAMP_BYTES) != 0;
+    differences += luddrisa_compare_stamps(asked, STAMP_BYTES, reply, STAMP_BYTES, &order) != 0 ||
+                   order != 0;
+    differences += luddrisa_compare_stamps(reply, STAMP_BYTES, asked, STAMP_BYTES, &order) != 0 ||
+                   order != 2;
+    /* The same second, told in another zone. */
+    differences += luddrisa_compare_stamps(asked, STAMP_BYTES, in_daylight_time, STAMP_BYTES,
+                                           &order) != 0 || order != 1;
+    differences += luddrisa_read_stamp(second_70, STAMP_BYTES, &second) != 18 || second != 0;
+    differences += luddrisa_compare_stamps(reply, STAMP_BYTES, second_70, STAMP_BYTES,
+                                           &order) != 18 || order != 0;
+    return differences;
+}
+
 int main(void)
 {
     static const uint32_t displaced[HOURS] = {100, 100, 60, 70};
@@ -194,5 +225,6 @@ int main(void)
     }
     differences += contests();
     differences += unwinds();
+    differences += stamps();
     return differences != 0;
 }

@@ -259,6 +259,15 @@ size_t luddrisa_profile_in_force(const uint32_t *ledger, size_t len, uint32_t re
 uint32_t luddrisa_read_stamp(const uint8_t *bytes, size_t len, uint32_t *second);
 
 /*
+ * Compares two stamps by their seconds, whatever their zones. Gives 0, and order 0,
+ * 1 or 2 as the first is earlier than, the same as or later than the second; or 18
+ * and order 0 where either is refused, and then 0 does not mean earlier. Order is
+ * always written. Both stamps are only read and may be the same slice.
+ */
+uint32_t luddrisa_compare_stamps(const uint8_t *first, size_t first_len, const uint8_t *second,
+                                 size_t second_len, uint32_t *order);
+
+/*
  * Writes the stamp of a second in a zone, 0 to 8 in the order above. Gives 0,
  * or 19 where the second or the zone is out of range, the local year is before
  * 2000 or the slice is not 16 bytes, and then writes nothing.

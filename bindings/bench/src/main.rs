@@ -432,16 +432,16 @@ fn stamp_at(place: u32) -> (u32, u32) {
     (40_000 + place * 3_155_000, place % 9)
 }
 
-/// (f) Stamps written and read, 1,000 in a round, against the model. No goal is set.
+fn stamp_of((second, zone): (u32, u32)) -> [u8; 16] {
+    let mut bytes = [0; 16];
+    assert_eq!(calls::write_stamp(&mut bytes, second, zone), 0);
+    bytes
+}
+
+/// (f) Stamps written, read and compared in different zones, 1,000 in a round, against the
+/// model. No goal is set.
 fn stamps() {
-    let stamps: Vec<[u8; 16]> = (0..1_000)
-        .map(|place| {
-            let (second, zone) = stamp_at(place);
-            let mut bytes = [0; 16];
-            assert_eq!(calls::write_stamp(&mut bytes, second, zone), 0);
-            bytes
-        })
-        .collect();
+    let stamps: Vec<_> = (0..1_000).map(stamp_at).map(stamp_of).collect();
     let written = side_by_side(
         61,
         &mut [0; 16],
@@ -462,9 +462,32 @@ fn stamps() {
         |stamps| assert!(stamps.iter().all(|bytes| calls::read_stamp(black_box(bytes)).0 == 0)),
         |stamps| assert!(stamps.iter().all(|bytes| model::read_stamp(black_box(bytes)).is_ok())),
     );
+    // A second earlier, the same and a second later in turn.
+    let pair_at = |place: u32| {
+        let (second, zone) = stamp_at(place);
+        let order = place % 3;
+        let other = (second + model::SAME - order, (zone + 4) % 9);
+        (stamp_of((second, zone)), stamp_of(other), order)
+    };
+    let compared = side_by_side(
+        61,
+        &mut (0..1_000).map(pair_at).collect::<Vec<_>>(),
+        |pairs| {
+            for (first, second, order) in pairs {
+                let compared = calls::compare_stamps(black_box(first), black_box(second));
+                assert_eq!(compared, (0, *order));
+            }
+        },
+        |pairs| {
+            for (first, second, order) in pairs {
+                let compared = model::compare_stamps(black_box(first), black_box(second));
+                assert_eq!(compared, Ok(*order));
+            }
+        },
+    );
     println!("\n| (f) a stamp | library | the model | ratio |");
     println!("|---|---|---|---|");
-    for (name, rounds) in [("written", written), ("read", read)] {
+    for (name, rounds) in [("written", written), ("read", read), ("compared", compared)] {
         let (library, other) = (rounds.library() / 1_000.0, rounds.other() / 1_000.0);
         println!("| {name} | {} | {} | {:.1} |", time(library), time(other), rounds.ratio());
     }

@@ -129,6 +129,11 @@ pub const BAD_PATH: u32 = 21;
 pub const OVER_POSTING: u32 = 22;
 pub const TERM_RANGE: u32 = 25;
 
+// How a stamp compares with another.
+pub const EARLIER: u32 = 0;
+pub const SAME: u32 = 1;
+pub const LATER: u32 = 2;
+
 pub fn is_entity(number: u32) -> bool {
     (1..=MAX_ENTITY).contains(&number)
 }

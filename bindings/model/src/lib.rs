@@ -1,6 +1,7 @@
 //! The hourly reservation ledger of document 01 with the withdrawal after a rebid, the
-//! path limits, the kept reductions, the balance on opening, the first refusal and the
-//! annulments in order of document 02, written from the papers alone.
+//! order of stamps, the path limits, the kept reductions, the balance on opening, the
+//! first refusal and the annulments in order of document 02, written from the papers
+//! alone.
 //!
 //! A ledger is a slice of 32-bit words: a head of 8 words, then R rows of
 //! 16 + 5 × H words each. What the provider posts for each path and hour stands
@@ -29,7 +30,7 @@ pub use open::{open, row_balances, tree_balances};
 pub use paths::{path_use, postings_fit};
 pub use readout::{charge, profile_in_force};
 pub use sound::sound;
-pub use stamp::{read_stamp, write_stamp, DAYS_BEFORE_MONTH, HOURS_BEHIND, ZONES};
+pub use stamp::{compare_stamps, read_stamp, write_stamp, DAYS_BEFORE_MONTH, HOURS_BEHIND, ZONES};
 pub use tally::{balanced, Entry, Tally};
 
 /// One action: the fields its kind does not read are ignored.

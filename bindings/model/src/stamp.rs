@@ -1,6 +1,8 @@
 //! OASIS time stamps: yyyymmddhhmmss and a zone, 16 bytes.
 
-use crate::layout::{END_SECOND, NOT_A_STAMP, STAMP_RANGE};
+use std::cmp::Ordering;
+
+use crate::layout::{EARLIER, END_SECOND, LATER, NOT_A_STAMP, SAME, STAMP_RANGE};
 
 /// Zones by their codes 0 to 8.
 pub const ZONES: [&[u8; 2]; 9] = [b"UT", b"ES", b"ED", b"CS", b"CD", b"MS", b"MD", b"PS", b"PD"];
@@ -68,6 +70,18 @@ fn parse(bytes: &[u8]) -> Option<u32> {
 /// The second of a stamp, counted from 2000-01-01 00:00 UT, or 18.
 pub fn read_stamp(bytes: &[u8]) -> Result<u32, u32> {
     parse(bytes).ok_or(NOT_A_STAMP)
+}
+
+/// Whether the first stamp's second is earlier than, the same as or later than the
+/// second's, whatever the zones, or 18.
+pub fn compare_stamps(first: &[u8], second: &[u8]) -> Result<u32, u32> {
+    let first = read_stamp(first)?;
+    let second = read_stamp(second)?;
+    Ok(match first.cmp(&second) {
+        Ordering::Less => EARLIER,
+        Ordering::Equal => SAME,
+        Ordering::Greater => LATER,
+    })
 }
 
 /// Writes the stamp of a second in a zone: 0, or 19 and nothing written.

@@ -1,4 +1,5 @@
-//! The day at the desk, each refusal once, withdrawals, contests, and annulments in order.
+//! The day at the desk, each refusal once, withdrawals, contests, annulments in order, and
+//! stamps.
 
 use super::*;
 
@@ -884,6 +885,87 @@ fn stamps_are_read() {
         "",
     ] {
         assert_eq!(read_stamp(stamp.as_bytes()), Err(NOT_A_STAMP), "{stamp}");
+    }
+}
+
+/// Each is refused.
+const NO_STAMPS: [&str; 19] = [
+    "20070423220070ES",
+    "20991231160000PS",
+    "20991231190000ES",
+    "20991231235959PD",
+    "20010229000000UT",
+    "20070431000000UT",
+    "20071301000000UT",
+    "20070001000000UT",
+    "20070100000000UT",
+    "20070101240000UT",
+    "20070101006000UT",
+    "19991231235959ES",
+    "21000101000000UT",
+    "20070101000000ut",
+    "20070101000000XX",
+    "2007010100000 UT",
+    "20070101000000U",
+    "20070101000000UT0",
+    "",
+];
+
+#[test]
+fn stamps_are_compared_by_their_seconds() {
+    for (first, second, order) in [
+        ("20070423060000ES", "20070423070000ED", SAME),
+        ("20070423060000ES", "20070423060000ES", SAME),
+        ("20070423060000ES", "20070423110000UT", SAME),
+        ("20070423060000ES", "20070423060000ED", LATER),
+        ("20070423060000ES", "20070423060001ES", EARLIER),
+        ("20070423060000ES", "20070423070001ED", EARLIER),
+        // Zones as far behind UT.
+        ("20070423060000ES", "20070423060000CD", SAME),
+        ("20070423060000CS", "20070423060000MD", SAME),
+        ("20070423060000MS", "20070423060000PD", SAME),
+        ("20070423060000MS", "20070423060001PD", EARLIER),
+        // The hour that ED and ES share when the clocks are put back at two.
+        ("20071104013000ED", "20071104013000ES", EARLIER),
+        ("20071104015959ED", "20071104010000ES", EARLIER),
+        ("20071104020000ED", "20071104010000ES", SAME),
+        ("20071104020001ED", "20071104010000ES", LATER),
+        // Another day, month or year in the other zone.
+        ("20080228210000MS", "20080229040000UT", SAME),
+        ("20070630235959PD", "20070701065958UT", LATER),
+        ("20061231190000ES", "20070101000000UT", SAME),
+        ("20061231190000ES", "20061231235959UT", LATER),
+        // The ends of the century.
+        ("20000101000000PD", "20000101000000UT", LATER),
+        ("20000101000000PD", "20000101070000UT", SAME),
+        ("20000101000000UT", "20000101000001UT", EARLIER),
+        ("20991231155959PS", "20991231235959UT", SAME),
+        ("20991231155959PS", "20991231165959PD", SAME),
+        ("20991231155958PS", "20991231235959UT", EARLIER),
+        ("20000101000000UT", "20991231155959PS", EARLIER),
+    ] {
+        let compared = |first: &str, second: &str| {
+            let order = compare_stamps(first.as_bytes(), second.as_bytes());
+            order.unwrap_or_else(|number| panic!("{first} and {second}: {number}"))
+        };
+        assert_eq!(compared(first, second), order, "{first} and {second}");
+        assert_eq!(compared(second, first), 2 - order, "{second} and {first}");
+        assert_eq!([first, second].map(|stamp| compared(stamp, stamp)), [SAME; 2]);
+    }
+}
+
+#[test]
+fn a_comparison_is_refused_by_either_stamp() {
+    for no_stamp in NO_STAMPS {
+        let refused = no_stamp.as_bytes();
+        for stamp in ["20000101000000UT", "20070423060000ES", "20991231155959PS"] {
+            let accepted = stamp.as_bytes();
+            assert_eq!(compare_stamps(refused, accepted), Err(NOT_A_STAMP), "{no_stamp}");
+            assert_eq!(compare_stamps(accepted, refused), Err(NOT_A_STAMP), "{no_stamp}");
+        }
+        for other in NO_STAMPS {
+            assert_eq!(compare_stamps(refused, other.as_bytes()), Err(NOT_A_STAMP), "{no_stamp}");
+        }
     }
 }
 

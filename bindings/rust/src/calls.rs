@@ -66,6 +66,13 @@ mod extern_c {
             out_len: usize,
         ) -> usize;
         pub fn luddrisa_read_stamp(bytes: *const u8, len: usize, second: *mut u32) -> u32;
+        pub fn luddrisa_compare_stamps(
+            first: *const u8,
+            first_len: usize,
+            second: *const u8,
+            second_len: usize,
+            order: *mut u32,
+        ) -> u32;
         pub fn luddrisa_write_stamp(bytes: *mut u8, len: usize, second: u32, zone: u32) -> u32;
     }
 }
@@ -204,6 +211,23 @@ pub fn read_stamp(bytes: &[u8]) -> (u32, u32) {
     // SAFETY: the pointer and the length are those of a slice lent for the call.
     let number = unsafe { extern_c::luddrisa_read_stamp(bytes.as_ptr(), bytes.len(), &mut second) };
     (number, second)
+}
+
+/// Compares two stamps: 0, and 0, 1 or 2 as the first's second is earlier than, the same as
+/// or later than the second's, whatever the zones; or 18 and 0 where either is refused.
+pub fn compare_stamps(first: &[u8], second: &[u8]) -> (u32, u32) {
+    let mut order = u32::MAX;
+    // SAFETY: the pointers and the lengths are those of slices lent for the call.
+    let number = unsafe {
+        extern_c::luddrisa_compare_stamps(
+            first.as_ptr(),
+            first.len(),
+            second.as_ptr(),
+            second.len(),
+            &mut order,
+        )
+    };
+    (number, order)
 }
 
 /// Writes the stamp of a second in a zone: 0, or 19 and nothing written.

@@ -1,5 +1,7 @@
 //! A ledger that owns its words, its postings, and stamps.
 
+use std::cmp::Ordering;
+
 use crate::calls;
 use crate::names::{Flags, Refusal, RequestType, Status, Zone};
 use crate::{Action, Answer, Contest, Move, Reply};
@@ -435,6 +437,27 @@ pub fn read_stamp(bytes: &[u8]) -> Result<u32, Refusal> {
     let (number, second) = calls::read_stamp(bytes);
     Refusal::check(number)?;
     Ok(second)
+}
+
+/// Whether the first stamp is earlier than, the same as or later than the second, whatever
+/// their zones, for bytes as they come. Where either is refused, it is
+/// [`Refusal::NOT_A_STAMP`].
+///
+/// ```
+/// use std::cmp::Ordering;
+///
+/// use luddrisa::{compare_stamps, Refusal};
+///
+/// let compared = compare_stamps(b"20000101000000PD", b"20000101000000UT");
+/// assert_eq!(compared, Ok(Ordering::Greater));
+/// let compared = compare_stamps(b"20000101000000PD", b"20000101000000");
+/// assert_eq!(compared, Err(Refusal::NOT_A_STAMP));
+/// ```
+pub fn compare_stamps(first: &[u8], second: &[u8]) -> Result<Ordering, Refusal> {
+    let (number, order) = calls::compare_stamps(first, second);
+    Refusal::check(number)?;
+    // Earlier is 0, the same 1 and later 2.
+    Ok(order.cmp(&1))
 }
 
 /// The OASIS stamp of a second in a zone.

@@ -12,10 +12,11 @@
 //! # Features
 //!
 //! `archive` turns on the calls: [`Ledger`], [`Postings`], [`read_stamp`],
-//! [`write_stamp`] and the module [`calls`]. Binaries and tests are then linked
-//! with `libluddrisa.a`, looked for in the directory that the environment variable
-//! `LUDDRISA_ARCHIVE_DIR` names, or else in `../../target/staticlib`. Without
-//! the feature there are only actions, contests, answers and names.
+//! [`write_stamp`], [`compare_stamps`] and the module [`calls`]. Binaries and tests
+//! are then linked with `libluddrisa.a`, looked for in the directory that the
+//! environment variable `LUDDRISA_ARCHIVE_DIR` names, or else in
+//! `../../target/staticlib`. Without the feature there are only actions, contests,
+//! answers and names.
 //!
 //! # A first day
 //!
@@ -84,4 +85,4 @@ pub use contest::{Contest, Move, Reply};
 pub use names::{Flags, Kind, Refusal, RequestType, Status, Zone};
 
 #[cfg(feature = "archive")]
-pub use ledger::{read_stamp, write_stamp, Head, Ledger, Postings, Row};
+pub use ledger::{compare_stamps, read_stamp, write_stamp, Head, Ledger, Postings, Row};

@@ -1,6 +1,8 @@
 //! Models with a planted fault. Each keeps to documents 01 and 02 but for one
 //! thing, and the tests must find every one of them.
 
+use std::cmp::Reverse;
+
 use luddrisa_model::*;
 
 use crate::edges::{laid_out, length_with};
@@ -11,6 +13,7 @@ use crate::plays::{
     Play, CONTESTING,
 };
 use crate::rules::{Model, Rules};
+use crate::stamps::{order_number, zone_named, zone_past_the_last};
 use crate::unwound::{status, stopped, Left, Obstacle, Unwinding, UNWINDING};
 
 /// One action as it was handed over.
@@ -49,6 +52,7 @@ enum Fault {
     Charge(fn(&[u32], u32) -> (u32, u64)),
     Profile(fn(&[u32], u32, &mut [u32]) -> usize),
     ReadStamp(fn(&[u8]) -> (u32, u32)),
+    CompareStamps(fn(&[u8], &[u8]) -> (u32, u32)),
     WriteStamp(fn(&mut [u8], u32, u32) -> u32),
 }
 
@@ -78,6 +82,16 @@ impl Faulty {
     /// True where the fault is one of contests.
     pub fn is_of_contests(&self) -> bool {
         matches!(self.fault, Fault::Contest(_) | Fault::Contested(_))
+    }
+
+    /// True where the fault is one of stamps.
+    pub fn is_of_stamps(&self) -> bool {
+        matches!(self.fault, Fault::ReadStamp(_) | Fault::WriteStamp(_)) || self.is_of_comparing()
+    }
+
+    /// True where the fault is one of comparing stamps.
+    pub fn is_of_comparing(&self) -> bool {
+        matches!(self.fault, Fault::CompareStamps(_))
     }
 }
 
@@ -173,6 +187,13 @@ impl Rules for Faulty {
         match self.fault {
             Fault::ReadStamp(read) => read(bytes),
             _ => Model.read_stamp(bytes),
+        }
+    }
+
+    fn compare_stamps(&self, first: &[u8], second: &[u8]) -> (u32, u32) {
+        match self.fault {
+            Fault::CompareStamps(compare) => compare(first, second),
+            _ => Model.compare_stamps(first, second),
         }
     }
 
@@ -895,6 +916,46 @@ fn other_rows(case: &Case) -> impl Iterator<Item = Row> {
     used_rows(case.before).into_iter().filter(move |row| row.at != own)
 }
 
+// Stamps.
+
+/// The second of a stamp, 0 where it is refused.
+fn second_of(bytes: &[u8]) -> u32 {
+    Model.read_stamp(bytes).1
+}
+
+/// The second of a stamp, also where it passes the last.
+fn second_or_past(bytes: &[u8]) -> Option<u32> {
+    let past = |zone: u32| {
+        let local = second_of(&[&bytes[..14], b"UT"].concat());
+        local + HOURS_BEHIND[zone as usize] * 3_600
+    };
+    read_stamp(bytes).ok().or_else(|| zone_past_the_last(bytes).map(past))
+}
+
+/// Two accepted stamps put in order by something else.
+fn ordered<K: Ord>(first: &[u8], second: &[u8], by: impl Fn(&[u8]) -> K) -> (u32, u32) {
+    match Model.compare_stamps(first, second) {
+        (0, _) => (0, order_number(by(first).cmp(&by(second)))),
+        refused => refused,
+    }
+}
+
+/// Two stamps put in order, a refused one as second 0, unless this refuses them.
+fn refused_where(first: &[u8], second: &[u8], refuses: fn([bool; 2]) -> bool) -> (u32, u32) {
+    if refuses([first, second].map(|bytes| Model.read_stamp(bytes).0 != 0)) {
+        return (NOT_A_STAMP, 0);
+    }
+    (0, order_number(second_of(first).cmp(&second_of(second))))
+}
+
+/// A comparison that is refused, with another number than 0.
+fn refused_order(first: &[u8], second: &[u8], order: fn(&[u8], &[u8]) -> u32) -> (u32, u32) {
+    match Model.compare_stamps(first, second) {
+        (NOT_A_STAMP, _) => (NOT_A_STAMP, order(first, second)),
+        accepted => accepted,
+    }
+}
+
 const PLAIN: Faulty = Faulty {
     name: "",
     fault: Fault::Act(|_, _, _| ()),
@@ -934,6 +995,10 @@ const fn crossposting(name: &'static str, spoil: fn(&Case, &mut [u32], &mut Answ
 
 const fn calling(name: &'static str, fault: Fault) -> Faulty {
     Faulty { name, fault, ..PLAIN }
+}
+
+const fn comparing(name: &'static str, compare: fn(&[u8], &[u8]) -> (u32, u32)) -> Faulty {
+    calling(name, Fault::CompareStamps(compare))
 }
 
 const fn opening(name: &'static str, open: fn(&[u32]) -> u32) -> Faulty {
@@ -3793,6 +3858,71 @@ pub const FAULTS: &[Faulty] = &[
             read => read,
         }),
     ),
+    comparing("compares stamps as bytes", |first, second| ordered(first, second, <[u8]>::to_vec)),
+    comparing("compares stamps in local time", |first, second| {
+        ordered(first, second, |bytes| bytes[..14].to_vec())
+    }),
+    comparing("compares zones before seconds", |first, second| {
+        ordered(first, second, |bytes| (zone_named(bytes), second_of(bytes)))
+    }),
+    comparing("takes stamps for the same in one zone only", |first, second| {
+        ordered(first, second, |bytes| (second_of(bytes), zone_named(bytes)))
+    }),
+    comparing("compares daylight time as standard time", |first, second| {
+        ordered(first, second, |bytes| {
+            let daylight = matches!(zone_named(bytes), Some(2 | 4 | 6 | 8));
+            second_of(bytes) + if daylight { 3_600 } else { 0 }
+        })
+    }),
+    comparing("compares stamps to the minute", |first, second| {
+        ordered(first, second, |bytes| second_of(bytes) / 60)
+    }),
+    comparing("compares seconds as signed numbers", |first, second| {
+        ordered(first, second, |bytes| second_of(bytes) as i32)
+    }),
+    comparing("exchanges earlier and later", |first, second| {
+        ordered(first, second, |bytes| Reverse(second_of(bytes)))
+    }),
+    comparing("gives 0 for the same and 1 for earlier", |first, second| {
+        match Model.compare_stamps(first, second) {
+            (0, EARLIER) => (0, SAME),
+            (0, SAME) => (0, EARLIER),
+            compared => compared,
+        }
+    }),
+    comparing("refuses to compare only where both stamps are refused", |first, second| {
+        refused_where(first, second, |refused| refused == [true, true])
+    }),
+    comparing("refuses to compare by the first stamp alone", |first, second| {
+        refused_where(first, second, |refused| refused[0])
+    }),
+    comparing("refuses to compare by the second stamp alone", |first, second| {
+        refused_where(first, second, |refused| refused[1])
+    }),
+    comparing("keeps the order of stamps that it refuses to compare", |first, second| {
+        refused_order(first, second, |first, second| {
+            order_number(second_of(first).cmp(&second_of(second)))
+        })
+    }),
+    comparing("leaves the order unwritten where it refuses to compare", |first, second| {
+        refused_order(first, second, |_, _| u32::MAX)
+    }),
+    comparing("does not read stamps of the same bytes", |first, second| {
+        if first == second {
+            return (0, SAME);
+        }
+        Model.compare_stamps(first, second)
+    }),
+    comparing("compares stamps past the last second", |first, second| {
+        match (second_or_past(first), second_or_past(second)) {
+            (Some(first), Some(second)) => (0, order_number(first.cmp(&second))),
+            _ => (NOT_A_STAMP, 0),
+        }
+    }),
+    comparing("compares the first 16 bytes of a longer slice", |first, second| {
+        let [first, second] = [first, second].map(|bytes| &bytes[..bytes.len().min(16)]);
+        Model.compare_stamps(first, second)
+    }),
     calling(
         "writes before 2000 as 2000",
         Fault::WriteStamp(|bytes, second, zone| {

@@ -6,10 +6,11 @@
 //! fields at their bounds and over), `openings` (ledgers that open, and damaged
 //! ones), `contests` (between the actions of lists, on any ledger, at their edges,
 //! and by strategies), `annulments` (orders of references, of any ledger and of deals
-//! made to be unwound), `batches` and `stamps`. `desks` gives a subject two actions in
-//! either order. `limits` works out the use of paths apart from the model, `plays` what
-//! a contest comes to, `unwound` what annulments in order do. `faults` holds models with
-//! a planted fault; the tests prove that each is caught.
+//! made to be unwound), `batches` and `stamps` (there and back, and compared in pairs).
+//! `desks` gives a subject two actions in either order. `limits` works out the use of
+//! paths apart from the model, `plays` what a contest comes to, `unwound` what annulments
+//! in order do. `faults` holds models with a planted fault; the tests prove that each is
+//! caught.
 
 pub mod annulments;
 pub mod batches;

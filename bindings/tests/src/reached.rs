@@ -6,6 +6,7 @@ use luddrisa_model::*;
 
 use crate::openings::Damage;
 use crate::plays::{row_named, Ending, Play};
+use crate::stamps::{order_number, zone_named, zone_past_the_last};
 use crate::unwound::{alone, Left, Obstacle, Step, UNWINDING};
 
 /// Stands for every kind that is not 1 to 8.
@@ -46,6 +47,7 @@ pub const CREATE: [u32; 2] = [0, 1];
 pub const OPENING: [u32; 3] = [0, 1, 20];
 pub const BATCH: [u32; 2] = [0, 17];
 pub const READ_STAMP: [u32; 2] = [0, 18];
+pub const COMPARE_STAMPS: [u32; 2] = [0, 18];
 pub const WRITE_STAMP: [u32; 2] = [0, 19];
 
 const OPEN: [u32; 8] = [1, 3, 4, 6, 7, 8, 10, 11];
@@ -229,6 +231,25 @@ pub const IN_ORDER: [InOrder; 24] = [
     InOrder::InAnotherOrder(Obstacle::OverPosting),
 ];
 
+/// What comparisons of stamps met.
+#[derive(Clone, Copy, Debug, PartialEq, Eq, PartialOrd, Ord)]
+pub enum Compared {
+    /// One of the two is read and is of this zone.
+    OfZone(u32),
+    /// One of the two, of this zone, is refused for passing the last second alone.
+    Past(u32),
+    /// Two of one zone are compared, and this is their order.
+    InOneZone(u32),
+    /// The same for two zones.
+    InTwoZones(u32),
+    /// Two are compared, and the order of the bytes is another, which is the second.
+    NotAsBytes(u32, u32),
+    /// A comparison is refused by the first alone, by the second alone, and by both.
+    ByFirst,
+    BySecond,
+    ByBoth,
+}
+
 /// All orders of some references.
 pub fn all_orders(references: &[u32]) -> Vec<Vec<u32>> {
     let mut orders = vec![Vec::new()];
@@ -274,6 +295,8 @@ pub struct Reached {
     stopped: BTreeMap<(Obstacle, Step, u32), u64>,
     /// What such lists met; how often.
     in_order: BTreeMap<InOrder, u64>,
+    /// What comparisons of stamps met; how often.
+    compared: BTreeMap<Compared, u64>,
 }
 
 impl Reached {
@@ -552,6 +575,38 @@ impl Reached {
         *self.in_order.entry(met).or_default() += 1;
     }
 
+    /// Notes what comparing gave: number, order.
+    pub fn note_comparison(&mut self, first: &[u8], second: &[u8], (number, order): (u32, u32)) {
+        self.note_call("compare stamps", number);
+        for bytes in [first, second] {
+            if read_stamp(bytes).is_ok() {
+                self.note_compared(Compared::OfZone(zone_named(bytes).expect("a zone")));
+            } else if let Some(zone) = zone_past_the_last(bytes) {
+                self.note_compared(Compared::Past(zone));
+            }
+        }
+        self.note_compared(match (read_stamp(first), read_stamp(second)) {
+            (Err(_), Err(_)) => Compared::ByBoth,
+            (Err(_), Ok(_)) => Compared::ByFirst,
+            (Ok(_), Err(_)) => Compared::BySecond,
+            (Ok(_), Ok(_)) if zone_named(first) == zone_named(second) => Compared::InOneZone(order),
+            (Ok(_), Ok(_)) => Compared::InTwoZones(order),
+        });
+        let of_bytes = order_number(first.cmp(second));
+        if number == 0 && of_bytes != order {
+            self.note_compared(Compared::NotAsBytes(order, of_bytes));
+        }
+    }
+
+    fn note_compared(&mut self, met: Compared) {
+        *self.compared.entry(met).or_default() += 1;
+    }
+
+    /// How often comparisons of stamps met a thing.
+    pub fn times_compared(&self, met: Compared) -> u64 {
+        self.compared.get(&met).copied().unwrap_or(0)
+    }
+
     /// How often lists of references met a thing.
     pub fn times_in_order(&self, met: InOrder) -> u64 {
         self.in_order.get(&met).copied().unwrap_or(0)
@@ -643,6 +698,10 @@ impl Reached {
         for met in IN_ORDER {
             lines.push_str(&format!(" {met:?} × {};", self.times_in_order(met)));
         }
+        lines.push_str("\nstamps compared:");
+        for met in listed_compared() {
+            lines.push_str(&format!(" {met:?} × {};", self.times_compared(met)));
+        }
         lines.push('\n');
         lines
     }
@@ -678,6 +737,7 @@ impl Reached {
         same("annulments (stopped by, step, type)", &listed_stopped(), &stopped)?;
         let in_order = self.in_order.keys().copied().collect();
         same("annulments in order", &IN_ORDER.into(), &in_order)?;
+        same("stamps compared", &listed_compared(), &self.compared.keys().copied().collect())?;
         same("call (name, number)", &listed_calls(), &self.calls)
     }
 }
@@ -829,8 +889,21 @@ pub fn listed_stopped() -> BTreeSet<(Obstacle, Step, u32)> {
     listed
 }
 
+/// All zones but UT can pass the last second. Stamps of the same bytes have the same second.
+pub fn listed_compared() -> BTreeSet<Compared> {
+    let mut listed: BTreeSet<_> = [Compared::ByFirst, Compared::BySecond, Compared::ByBoth].into();
+    listed.extend((0..9).map(Compared::OfZone));
+    listed.extend((1..9).map(Compared::Past));
+    for order in [EARLIER, SAME, LATER] {
+        listed.extend([Compared::InOneZone(order), Compared::InTwoZones(order)]);
+        let of_bytes = [EARLIER, LATER].into_iter().filter(|&of_bytes| of_bytes != order);
+        listed.extend(of_bytes.map(|of_bytes| Compared::NotAsBytes(order, of_bytes)));
+    }
+    listed
+}
+
 fn listed_calls() -> BTreeSet<(&'static str, u32)> {
-    let calls: [(&str, &[u32]); 8] = [
+    let calls: [(&str, &[u32]); 9] = [
         ("annuls in order", &ANNULS_IN_ORDER),
         ("charge", &CHARGE),
         ("contest", &CONTEST),
@@ -838,6 +911,7 @@ fn listed_calls() -> BTreeSet<(&'static str, u32)> {
         ("open", &OPENING),
         ("batch", &BATCH),
         ("read stamp", &READ_STAMP),
+        ("compare stamps", &COMPARE_STAMPS),
         ("write stamp", &WRITE_STAMP),
     ];
     calls.iter().flat_map(|&(call, numbers)| numbers.iter().map(move |&n| (call, n))).collect()
@@ -847,6 +921,7 @@ fn listed_calls() -> BTreeSet<(&'static str, u32)> {
 mod tests {
     use super::*;
     use crate::edges::one_row;
+    use crate::rules::{Model, Rules};
 
     #[test]
     fn the_tables_hold_what_the_paper_lists() {
@@ -868,6 +943,7 @@ mod tests {
         // Of the obstacles 2 come before any step, 1 finds no row, 1 is never first; 2 meet
         // all types, 1 a record, 2 all but records, 1 those that come from another row.
         assert_eq!(listed_stopped().len(), 2 + 2 + 8 + 2 * (2 * 8 + 1 + 2 * 7 + 5));
+        assert_eq!(listed_compared().len(), 3 + 9 + 8 + 3 * 2 + 4);
     }
 
     #[test]
@@ -894,7 +970,17 @@ mod tests {
         reached.stopped = all_stopped();
         let all_in_order = || IN_ORDER.into_iter().map(|met| (met, 1)).collect();
         reached.in_order = all_in_order();
+        let all_compared = || listed_compared().into_iter().map(|met| (met, 1)).collect();
+        reached.compared = all_compared();
         assert_eq!(reached.check(), Ok(()));
+        for met in listed_compared() {
+            reached.compared.remove(&met);
+            assert!(reached.check().unwrap_err().contains(&format!("never reached [{met:?}]")));
+            reached.compared = all_compared();
+        }
+        reached.compared.insert(Compared::Past(0), 1);
+        assert!(reached.check().unwrap_err().contains("not in the paper [Past(0)]"));
+        reached.compared = all_compared();
         reached.stopped.remove(&(Obstacle::OverBound, Step::Later, FULL_TRANSFER));
         assert!(reached.check().unwrap_err().contains("never reached [(OverBound, Later, 7)]"));
         reached.stopped = all_stopped();
@@ -979,5 +1065,35 @@ mod tests {
         assert_eq!(met_in([0, FULL], [5, 5], [6, 1]), [ShortAndOver]);
         assert_eq!(met_in([0, FULL], [5, 5], [6, 0]), []);
         assert_eq!(met_in([0, FULL], [5, 5], [0, 0]), []);
+    }
+
+    /// What comparing two stamps meets.
+    fn met_by(first: &str, second: &str) -> Vec<Compared> {
+        let mut reached = Reached::default();
+        let (first, second) = (first.as_bytes(), second.as_bytes());
+        reached.note_comparison(first, second, Model.compare_stamps(first, second));
+        reached.compared.into_keys().collect()
+    }
+
+    #[test]
+    fn comparisons_are_told_apart() {
+        use super::Compared::*;
+        let noon = "20070423120000ES";
+        assert_eq!(met_by(noon, noon), [OfZone(1), InOneZone(SAME)]);
+        assert_eq!(met_by(noon, "20070423120001ES"), [OfZone(1), InOneZone(EARLIER)]);
+        assert_eq!(
+            met_by(noon, "20070423130000ED"),
+            [OfZone(1), OfZone(2), InTwoZones(SAME), NotAsBytes(SAME, EARLIER)]
+        );
+        assert_eq!(met_by("20070423130001ED", noon), [OfZone(1), OfZone(2), InTwoZones(LATER)]);
+        assert_eq!(
+            met_by(noon, "20070423165959UT"),
+            [OfZone(0), OfZone(1), InTwoZones(LATER), NotAsBytes(LATER, EARLIER)]
+        );
+        // Past the last second, in a zone that is none, and too short.
+        assert_eq!(met_by("20991231190000ES", noon), [OfZone(1), Past(1), ByFirst]);
+        assert_eq!(met_by(noon, "20991231190000XX"), [OfZone(1), BySecond]);
+        assert_eq!(met_by("20991231160000PS", "20070423"), [Past(7), ByBoth]);
+        assert_eq!(met_by("21000101000000ES", "20070423240000PS"), [ByBoth]);
     }
 }

@@ -1,4 +1,4 @@
-//! What is tested: the nine calls, by whomever they are carried out.
+//! What is tested: the ten calls, by whomever they are carried out.
 
 #[cfg(feature = "archive")]
 use crate::converted::{action_to_library, answer_to_library, answer_to_model, contest_to_library};
@@ -33,6 +33,8 @@ pub trait Rules {
     fn charge(&self, ledger: &[u32], reference: u32) -> (u32, u64);
     fn profile_in_force(&self, ledger: &[u32], reference: u32, out: &mut [u32]) -> usize;
     fn read_stamp(&self, bytes: &[u8]) -> (u32, u32);
+    /// Number, order.
+    fn compare_stamps(&self, first: &[u8], second: &[u8]) -> (u32, u32);
     fn write_stamp(&self, bytes: &mut [u8], second: u32, zone: u32) -> u32;
 }
 
@@ -92,6 +94,13 @@ impl Rules for Model {
     fn read_stamp(&self, bytes: &[u8]) -> (u32, u32) {
         match model::read_stamp(bytes) {
             Ok(second) => (0, second),
+            Err(number) => (number, 0),
+        }
+    }
+
+    fn compare_stamps(&self, first: &[u8], second: &[u8]) -> (u32, u32) {
+        match model::compare_stamps(first, second) {
+            Ok(order) => (0, order),
             Err(number) => (number, 0),
         }
     }
@@ -158,6 +167,10 @@ impl Rules for Library {
 
     fn read_stamp(&self, bytes: &[u8]) -> (u32, u32) {
         luddrisa::calls::read_stamp(bytes)
+    }
+
+    fn compare_stamps(&self, first: &[u8], second: &[u8]) -> (u32, u32) {
+        luddrisa::calls::compare_stamps(first, second)
     }
 
     fn write_stamp(&self, bytes: &mut [u8], second: u32, zone: u32) -> u32 {

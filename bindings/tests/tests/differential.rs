@@ -9,7 +9,7 @@ use luddrisa_tests::faults::{
     Faulty, CONTESTED_APART, FAULTS, JUDGED_APART, OPENED_APART, UNWOUND_APART, WITHDRAWN_APART,
 };
 use luddrisa_tests::plays::Ending;
-use luddrisa_tests::reached::{FOUND, IN_ORDER};
+use luddrisa_tests::reached::{listed_compared, FOUND, IN_ORDER};
 use luddrisa_tests::rules::{Model, Rules};
 use luddrisa_tests::run::{Difference, Run, UNWRITTEN};
 use luddrisa_tests::unwound::Obstacle;
@@ -261,8 +261,11 @@ fn planted_faults_are_caught() {
     // Without a fault the same seeds find nothing.
     assert_eq!(everything(&mut Run::new(&Model), SEED, 16), Ok(()));
     let mut missed = Vec::new();
-    // Those of contests and of annulments in order are for their own generators.
-    let is_of_others = |faulty: &&Faulty| faulty.is_of_contests() || faulty.is_of_annulments();
+    // Those of contests, of annulments in order and of comparing stamps are for their own
+    // generators.
+    let is_of_others = |faulty: &&Faulty| {
+        faulty.is_of_contests() || faulty.is_of_annulments() || faulty.is_of_comparing()
+    };
     for faulty in FAULTS.iter().filter(|faulty| !is_of_others(faulty)) {
         let mut run = Run::new(faulty);
         match everything(&mut run, SEED, 16) {
@@ -274,7 +277,7 @@ fn planted_faults_are_caught() {
         }
     }
     assert!(missed.is_empty(), "not caught: {missed:?}");
-    assert!(FAULTS.len() > 415, "only {}", FAULTS.len());
+    assert!(FAULTS.len() > 432, "only {}", FAULTS.len());
 }
 
 /// No other generator is needed to find a fault in contests.
@@ -314,6 +317,53 @@ fn annulments_alone_catch_their_faults() {
         }
     }
     assert!(missed.is_empty(), "not caught: {missed:?}");
+}
+
+/// No other generator is needed to find a fault in stamps.
+#[test]
+fn stamps_alone_catch_their_faults() {
+    let stamps = |subject: &dyn Rules| stamps::stamps(&mut Run::new(subject), SEED, 400);
+    assert_eq!(stamps(&Model), Ok(()));
+    let of_stamps: Vec<_> = FAULTS.iter().filter(|faulty| faulty.is_of_stamps()).collect();
+    assert!(of_stamps.len() > 20, "only {}", of_stamps.len());
+    for faulty in of_stamps {
+        let told = stamps(faulty);
+        assert!(told.is_err(), "not caught: {}", faulty.name);
+        println!("{}: {}", faulty.name, told.unwrap_err());
+    }
+}
+
+/// The other way round earlier and later change places, and an accepted stamp is the same as
+/// itself. These laws need no model; many another order keeps them too.
+#[test]
+fn comparing_keeps_its_laws() {
+    let laws = |subject: &dyn Rules| stamps::laws_of(subject, SEED, 4_000);
+    expect_agreement(laws(SUBJECT));
+    let of_comparing = FAULTS.iter().filter(|faulty| faulty.is_of_comparing());
+    let caught: Vec<_> =
+        of_comparing.filter(|faulty| laws(*faulty).is_err()).map(|faulty| faulty.name).collect();
+    assert_eq!(
+        caught,
+        [
+            "gives 0 for the same and 1 for earlier",
+            "refuses to compare by the first stamp alone",
+            "refuses to compare by the second stamp alone",
+            "keeps the order of stamps that it refuses to compare",
+        ]
+    );
+}
+
+/// Stamps of each zone, and, but for UT, past the last second; each order in one zone and in
+/// two, also where the bytes have another; refused by either stamp and by both.
+#[test]
+fn comparisons_come_to_each_order() {
+    let mut run = Run::new(SUBJECT);
+    expect_agreement(stamps::stamps(&mut run, SEED, 8_000));
+    for met in listed_compared() {
+        let times = run.reached.times_compared(met);
+        println!("{met:?} × {times}");
+        assert!(times >= 500, "{met:?} only {times} times");
+    }
 }
 
 /// The generator of openings needs no other to find a fault in them.
