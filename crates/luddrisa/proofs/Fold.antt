@@ -16,10 +16,10 @@ abbrev pub no_action : Action
 no_action = record { kind = 0; actor = 0; reference = 0; reqtype = 0; status = 0; seller = 0; related = 0; start = 0; stop = 0; flags = 0; price = 0; time = 0; offset = 0; length = 0; path = 0 }
 
 -- ---- lists
-drop-step {ℓ} : {A : Type ℓ} (xs : List A) (i : ℕ) (d : A) → i < length xs → drop i xs ≡ get_or xs i d ∷ drop (suc i) xs
-drop-step [] i d h = absurd (not-suc-le-zero h)
-drop-step (x ∷ xs) zero d h = refl
-drop-step (x ∷ xs) (suc i) d h = drop-step xs i d (le_of_suc-le-suc h)
+drop_step {ℓ} : {A : Type ℓ} (xs : List A) (i : ℕ) (d : A) → i < length xs → drop i xs ≡ get_or xs i d ∷ drop (suc i) xs
+drop_step [] i d h = absurd (not-suc-le-zero h)
+drop_step (x ∷ xs) zero d h = refl
+drop_step (x ∷ xs) (suc i) d h = drop_step xs i d (le_of_suc-le-suc h)
 
 drop_all {ℓ} : {A : Type ℓ} (xs : List A) → drop (length xs) xs ≡ []
 drop_all [] = refl
@@ -70,7 +70,7 @@ module _ {b : Bool} {l₀ ps₀ w : List ℕ} {xs : List Action} {out₀ : List 
   -- one more action: it leaves l and ps, and answers r
   module _ (h : i < length xs) {l ps : List ℕ} {r : Answer} (is_r : r ≡ does.answer) (is_l : l ≡ does.ledger) (is_ps : ps ≡ does.postings) where
     left_is : doing ∷ drop (suc i) xs ≡ drop i xs
-    left_is = sym (drop-step xs i no_action h)
+    left_is = sym (drop_step xs i no_action h)
 
     more_tested : b ≡ sound_both l ps
     more_tested = tested_after b led psts w doing s.tested ∙ sym (λ j. sound_both (is_l j) (is_ps j))

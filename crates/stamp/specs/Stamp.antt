@@ -257,7 +257,7 @@ stamp_of s z = bytes_of (fields_at (s - offset z) z)
 unfoldable pub written : List ℕ → ℕ → ℕ → List ℕ
 written bs s z = pick (eqb (write_number bs s z) 0) (stamp_of s z) bs
 
--- COMPARING two readings: the order of their seconds, whatever the zones; 18 and 0, either was refused (P2)
+-- COMPARING two readings: the order of their seconds, whatever the zones; 18 and 0, either was refused
 
 -- the order of two seconds: the first is earlier, they are the same, the first is later
 abbrev pub earlier : ℕ

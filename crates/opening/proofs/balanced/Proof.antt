@@ -18,8 +18,8 @@ rows_fit s e = omega (arith, e, few s)
 lasts_fit : {l : List ℕ} {R H u : ℕ} → SoundAt l R H → u ≡ used l → u + 1 ≤ 1025
 lasts_fit s e = omega (arith, e, few s)
 
-hours-fit : {l : List ℕ} {R H : ℕ} → SoundAt l R H → H ≤ 744
-hours-fit s = (sized_at s).hours
+hours_fit : {l : List ℕ} {R H : ℕ} → SoundAt l R H → H ≤ 744
+hours_fit s = (sized_at s).hours
 
 pub balanced_spec : {M : Type 1} → statement M
 balanced_spec =
@@ -32,8 +32,8 @@ balanced_spec =
     (λ c. let p = c.requires in sym (length-take-le _ _ (lasts_fit p.0 p.1)))
     (λ c. let p = c.requires in rows_fit p.0 p.1)
     (λ c. let p = c.requires in sym (length-take-le _ _ (rows_fit p.0 p.1)))
-    (λ c. let p = c.requires in hours-fit p.0)
-    (λ c. let p = c.requires in sym (length-take-le _ _ (hours-fit p.0)))
+    (λ c. let p = c.requires in hours_fit p.0)
+    (λ c. let p = c.requires in sym (length-take-le _ _ (hours_fit p.0)))
     (λ c κs.
     let p = c.requires in (
       p.0,
@@ -43,7 +43,7 @@ balanced_spec =
           links_long = length-take-le _ _ (rows_fit p.0 p.1);
           lasts_long = length-take-le _ _ (lasts_fit p.0 p.1);
           befores_long = length-take-le _ _ (rows_fit p.0 p.1);
-          sums_long = length-take-le _ _ (hours-fit p.0);
+          sums_long = length-take-le _ _ (hours_fit p.0);
         },
       ),
     ))

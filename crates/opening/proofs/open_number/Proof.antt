@@ -29,11 +29,11 @@ unfolding open_number unbalanced
 judged l b e q = ap (λ (x : Bool). not x gives 20 else 0) q ∙ sym (ap (λ (b : Bool). not b gives 1 else (unbalanced l gives 20 else 0)) e)
 
 -- what the test of soundness said, where it passed
-is-sound : (x : tie.Else-not-sound) → sound x.args.l.now ≡ true
-is-sound x = sym x.sound.ensures ∙ x.if-not-sound.false
+is_sound : (x : tie.Else-not-sound) → sound x.args.l.now ≡ true
+is_sound x = sym x.sound.ensures ∙ x.if-not-sound.false
 
 long : (x : tie.Else-not-sound) → 8 ≤ length x.args.l.now
-long x = head_fits (at_own (is-sound x))
+long x = head_fits (at_own (is_sound x))
 
 pub open_number_spec : {M : Type 1} → statement M
 open_number_spec =
@@ -47,8 +47,8 @@ open_number_spec =
     (λ c. omega (arith, c.shared_slice_known-3-1.given 1))
     (λ c. omega (arith, long c.before.before.before))
     (λ c. omega (arith, c.shared_slice_known-4-1.given 6))
-    (λ c κs. (at_own (is-sound c.before.before.before), refl))
+    (λ c κs. (at_own (is_sound c.before.before.before), refl))
     (λ c.
-    ap (λ (x : Bool). x gives 20 else 0) (sym (ap not c.if-not-balanced.true)) ∙ judged _ c.balanced.result (is-sound c.before.before.before.before.before) c.balanced.ensures)
+    ap (λ (x : Bool). x gives 20 else 0) (sym (ap not c.if-not-balanced.true)) ∙ judged _ c.balanced.result (is_sound c.before.before.before.before.before) c.balanced.ensures)
     (λ c.
-    ap (λ (x : Bool). x gives 20 else 0) (sym (ap not c.if-not-balanced.false)) ∙ judged _ c.balanced.result (is-sound c.before.before.before.before.before) c.balanced.ensures))
+    ap (λ (x : Bool). x gives 20 else 0) (sym (ap not c.if-not-balanced.false)) ∙ judged _ c.balanced.result (is_sound c.before.before.before.before.before) c.balanced.ensures))

@@ -10,8 +10,8 @@ use Rattle.layout.proofs.SoundAt.{sized_at}
 use Rattle.unwinding.proofs.unwinds.Statement.{statement}
 use Rattle.unwinding.proofs.unwinds.Tie as tie
 
-hours-fit : {l : List ℕ} {R H : ℕ} → SoundAt l R H → H ≤ 744
-hours-fit s = (sized_at s).hours
+hours_fit : {l : List ℕ} {R H : ℕ} → SoundAt l R H → H ≤ 744
+hours_fit s = (sized_at s).hours
 
 pub unwinds_spec : {M : Type 1} → statement M
 unfolding noughts build
@@ -20,7 +20,7 @@ unwinds_spec =
     (tie.spec
     (λ c. search rules)
     (λ c. search rules)
-    (λ c. hours-fit c.requires.1)
-    (λ c. sym (length-take-le _ _ (hours-fit c.requires.1)))
-    (λ c κs. let p = c.requires in (p, (refl, refl, length-take-le _ _ (hours-fit p.1))))
+    (λ c. hours_fit c.requires.1)
+    (λ c. sym (length-take-le _ _ (hours_fit c.requires.1)))
+    (λ c κs. let p = c.requires in (p, (refl, refl, length-take-le _ _ (hours_fit p.1))))
     (λ c. c.three_passes.ensures))

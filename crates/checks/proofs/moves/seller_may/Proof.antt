@@ -10,8 +10,8 @@ use Rattle.checks.proofs.moves.seller_may.Statement.{statement}
 use Rattle.checks.proofs.moves.seller_may.Tie as tie
 
 -- by the cases of a sum, which stands first so that they are known
-by-either : {A B C : Type 0} → A ⊎ B → (A → C) → (B → C) → C
-by-either x f g = ⊎_elim f g x
+by_either : {A B C : Type 0} → A ⊎ B → (A → C) → (B → C) → C
+by_either x f g = ⊎_elim f g x
 
 pub seller_may_spec : {M : Type 1} → statement M
 unfolding allowed seller_moves members held
@@ -33,7 +33,7 @@ seller_may_spec =
     (λ c. simp (c.before.in-3.is, c.is_in.ensures, or-false, and-true))
     (λ c. simp (c.before.in-4.is, c.is_in-in-4.ensures, or-false, and-true))
     (λ c. simp (c.before.in-2.is, c.is_in-in-2.ensures, or-false, and-true))
-    (λ c. by-either c.before.in-5.is (λ e. simp (e, c.is_in-in-5.ensures, or-false, and-true)) (λ e. simp (e, c.is_in-in-5.ensures, or-false, and-true)))
+    (λ c. by_either c.before.in-5.is (λ e. simp (e, c.is_in-in-5.ensures, or-false, and-true)) (λ e. simp (e, c.is_in-in-5.ensures, or-false, and-true)))
     (λ c. simp (c.before.in-9.is, c.is_in-in-9.ensures, or-false, and-true))
     (λ c. simp (c.before.in-6.is, c.is_in-in-6.ensures, or-false))
     (λ c. simp (c.before.in-7.is, c.is_in-in-7.ensures, or-false))

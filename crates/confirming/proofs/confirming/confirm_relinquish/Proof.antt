@@ -19,8 +19,8 @@ S c = c.before.before.before.before
 three : (c : tie.After-related_of-redirect) → 3 ≤ reqtype (row (S c).args.hours (S c).args.l.now (S c).args.n)
 three c = omega (arith, (S c).requires.1.1.1.1)
 
-redirect-in : (c : tie.After-related_of-redirect) → c.related_of-redirect.result < (S c).args.rows
-redirect-in c = omega (arith, c.related_of-redirect.ensures, related_in (S c).requires.0 (three c))
+redirect_in : (c : tie.After-related_of-redirect) → c.related_of-redirect.result < (S c).args.rows
+redirect_in c = omega (arith, c.related_of-redirect.ensures, related_in (S c).requires.0 (three c))
 
 fits : (c : tie.After-related_of-redirect) → c.start_of-start.result + length (S c).args.mw.now ≤ (S c).args.hours
 fits c = omega (arith, c.start_of-start.ensures, span_fits (S c).requires.0 (S c).args.mw.now (S c).requires.1.0)
@@ -41,22 +41,22 @@ confirm_relinquish_spec =
     (tie.spec
     (λ c κs. search placed)
     (λ c κs. search placed)
-    (λ c κs. let t = c in (sized (S t).requires.0, redirect-in t))
+    (λ c κs. let t = c in (sized (S t).requires.0, redirect_in t))
     (λ c κs.
     let t = c.before.before in
     let s = S t in
-    (sized s.requires.0, ((redirect-in t, fits t), cc (not_short s.requires.0 s.args.mw.now (three t) s.requires.1.1.0, t.related_of-redirect.ensures, t.start_of-start.ensures))))
+    (sized s.requires.0, ((redirect_in t, fits t), cc (not_short s.requires.0 s.args.mw.now (three t) s.requires.1.1.0, t.related_of-redirect.ensures, t.start_of-start.ensures))))
     (λ c κs.
     let u = c.before.before.before.before.before in
     let t = u.before in
     let s = S t in
     let z = sized s.requires.0 in
-    let m : u.related_of-above.result < s.args.rows = omega (arith, above_before u, redirect-in t) in
+    let m : u.related_of-above.result < s.args.rows = omega (arith, above_before u, redirect_in t) in
     let ne : u.related_of-above.result ≢ t.related_of-redirect.result = λ e. omega (arith, above_before u, e) in (
       record { long = c.take_from.auto.l ∙ z.long; rows = z.rows; hours = z.hours },
       (
         (m, fits t),
-        ap (λ (r : List ℕ). full s.args.hours t.start_of-start.result s.args.mw.now r) (after_take t.start_of-start.result s.args.mw.now z (redirect-in t) (fits t) ne c.take_from.ensures)
+        ap (λ (r : List ℕ). full s.args.hours t.start_of-start.result s.args.mw.now r) (after_take t.start_of-start.result s.args.mw.now z (redirect_in t) (fits t) ne c.take_from.ensures)
             ∙ cc (not_over s.requires.0 s.args.mw.now s.requires.1.1.1.1 s.requires.1.1.1.0, above_is u, t.start_of-start.ensures),
       ),
     ))
@@ -66,7 +66,7 @@ confirm_relinquish_spec =
     let s = S t in
     let z = sized s.requires.0 in
     let low : t.related_of-redirect.result < s.args.n = omega (arith, t.related_of-redirect.ensures, related_before s.requires.0 (three t)) in
-    let m : u.related_of-above.result < s.args.rows = omega (arith, above_before u, redirect-in t) in
+    let m : u.related_of-above.result < s.args.rows = omega (arith, above_before u, redirect_in t) in
     let ne : s.args.n ≢ t.related_of-redirect.result = λ e. omega (arith, low, e) in
     let ne2 : s.args.n ≢ u.related_of-above.result = λ e. omega (arith, low, above_before u, e) in
     let z1 : Sized c.take_from.new.l s.args.rows s.args.hours = record { long = c.take_from.auto.l ∙ z.long; rows = z.rows; hours = z.hours } in (
@@ -76,7 +76,7 @@ confirm_relinquish_spec =
         omega (
           arith,
           ap (λ (r : List ℕ). get_or r 7 0) (after_give t.start_of-start.result s.args.mw.now z1 m (fits t) ne2 c.give_back.ensures),
-          ap (λ (r : List ℕ). get_or r 7 0) (after_take t.start_of-start.result s.args.mw.now z (redirect-in t) (fits t) ne c.take_from.ensures),
+          ap (λ (r : List ℕ). get_or r 7 0) (after_take t.start_of-start.result s.args.mw.now z (redirect_in t) (fits t) ne c.take_from.ensures),
           (own_words s.requires.0).flags,
         ),
       ),

@@ -16,11 +16,11 @@ use Rattle.confirming.proofs.confirming.is_partial.Tie as tie
 abbrev S : tie.After-related_of-above → tie.Start
 S c = c.before.before.before.before.before.before
 
-full-transfer : (c : tie.After-related_of-above) → reqtype (row (S c).args.hours (S c).args.l.now (S c).args.n) ≡ FULL_TRANSFER
-full-transfer c = sym c.word_at-reqtype.ensures ∙ c.if-reqtype-ne-FULL_TRANSFER.false
+full_transfer : (c : tie.After-related_of-above) → reqtype (row (S c).args.hours (S c).args.l.now (S c).args.n) ≡ FULL_TRANSFER
+full_transfer c = sym c.word_at-reqtype.ensures ∙ c.if-reqtype-ne-FULL_TRANSFER.false
 
 above_in : (c : tie.After-related_of-above) → c.related_of-above.result < (S c).args.rows
-above_in c = omega (arith, c.related_of-above.ensures, related_in (S c).requires.0 (omega (arith, full-transfer c)))
+above_in c = omega (arith, c.related_of-above.ensures, related_in (S c).requires.0 (omega (arith, full_transfer c)))
 
 said : (c : tie.After-same_span) → c.same_span.result ≡ same_span (row (S c.before).args.hours (S c.before).args.l.now (S c.before).args.n) (row (S c.before).args.hours (S c.before).args.l.now (related_row (S c.before).args.hours (S c.before).args.l.now (S c.before).args.n))
 said c =
@@ -37,7 +37,7 @@ is_partial_spec =
     (λ c κs. search placed)
     (λ c κs. search placed)
     (λ c κs. (sized (S c).requires.0, (in_rows (S c).requires.0, above_in c)))
-    (λ c. and_goes _ _ true (eq-eqb _ _ (full-transfer c.before.before)) (ap not (and_stops _ _ (sym (said c.before) ∙ c.if-not-same_span.true))))
+    (λ c. and_goes _ _ true (eq-eqb _ _ (full_transfer c.before.before)) (ap not (and_stops _ _ (sym (said c.before) ∙ c.if-not-same_span.true))))
     (λ c κs.
     let t = c.before.before in
     let s = S t in
@@ -45,6 +45,6 @@ is_partial_spec =
     (sized s.requires.0, (above_in t, f)))
     (λ c.
     let t = c.before.before in
-    and_goes _ _ _ (eq-eqb _ _ (full-transfer t.before))
+    and_goes _ _ _ (eq-eqb _ _ (full_transfer t.before))
     (ap not (and_goes _ _ c.equals_at.result (sym (said t) ∙ c.if-not-same_span.false)
     (cc (c.equals_at.ensures, t.related_of-above.ensures, t.start_of-start.ensures))))))

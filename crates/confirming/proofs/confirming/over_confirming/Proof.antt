@@ -21,8 +21,8 @@ relinquish c = sym c.word_at-reqtype.ensures ∙ c.if-reqtype-ne-RELINQUISH.fals
 three : (c : tie.After-related_of-redirect) → 3 ≤ reqtype (row (S c).args.hours (S c).args.l.now (S c).args.n)
 three c = omega (arith, relinquish c)
 
-redirect-in : (c : tie.After-related_of-redirect) → c.related_of-redirect.result < (S c).args.rows
-redirect-in c = omega (arith, c.related_of-redirect.ensures, related_in (S c).requires.0 (three c))
+redirect_in : (c : tie.After-related_of-redirect) → c.related_of-redirect.result < (S c).args.rows
+redirect_in c = omega (arith, c.related_of-redirect.ensures, related_in (S c).requires.0 (three c))
 
 above_in : (c : tie.After-related_of-above) → c.related_of-above.result < (S c.before).args.rows
 above_in c =
@@ -40,7 +40,7 @@ over_confirming_spec =
     (λ c. and_stops _ _ (ne_eqb _ _ (λ e. c.if-reqtype-ne-RELINQUISH.true (c.word_at-reqtype.ensures ∙ e))))
     (λ c κs. search placed)
     (λ c κs. search placed)
-    (λ c κs. (sized (S c).requires.0, redirect-in c))
+    (λ c κs. (sized (S c).requires.0, redirect_in c))
     (λ c κs.
     let t = c.before in
     let s = S t in

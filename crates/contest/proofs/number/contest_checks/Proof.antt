@@ -1,9 +1,8 @@
 -- `contest::number::contest_checks` meets its contract.
-use mathlib.Core.Path.{ap, ◌≡◌, refl, sym, ◌∙◌}
+use mathlib.Core.Path.{◌≡◌, refl, sym, ◌∙◌}
 use mathlib.Core.List.{[]}
 use Prim.Native.Nat.{◌≤◌}
 use borrow.Author.Rules.{rules}
-use mathlib.Core.Bool.{not}
 use Rattle.rules.specs.Layout.{used}
 use Rattle.rules.specs.SellerStatus.{seller_number}
 use Rattle.rules.specs.Contest.{displacing, contest_checks}
@@ -36,13 +35,13 @@ contest_checks_spec =
     (λ c. refuses _ _ _ (says c.before) c.if-n-ne0.true)
     (λ c κs. search rules)
     (λ c κs. let s = S c.before.before in in_rows (in_place s.requires s.args.k (issued c.before) c.row_of-row.ensures))
-    (λ c. passes _ _ _ _ (says c.before.before.before.before) c.if-n-ne0.false (hit _ _ _ (firm_says _ _ _ c.firm.ensures c.row_of-row.ensures (ap not c.if-not-firm.true))))
+    (λ c. passes _ _ _ _ (says c.before.before.before.before) c.if-n-ne0.false (hit _ _ _ (firm_says _ _ _ c.firm.ensures c.row_of-row.ensures (search rules))))
     (λ c κs. let x = c.before.before.before in ((S x.before).requires, issued x))
     (λ c.
     passes _ _ _ _ (says c.before.before.before.before.before.before) c.if-n-ne0.false
-    (skip _ _ _ _ (firm_says _ _ _ c.firm.ensures c.row_of-row.ensures (ap not c.if-not-firm.false))
+    (skip _ _ _ _ (firm_says _ _ _ c.firm.ensures c.row_of-row.ensures (search rules))
     (hit _ _ _ (sym c.bad_greatest.ensures ∙ c.if-bad_greatest.true))))
     (λ c.
     passes _ _ _ _ (says c.before.before.before.before.before.before) c.if-n-ne0.false
-    (skip _ _ _ _ (firm_says _ _ _ c.firm.ensures c.row_of-row.ensures (ap not c.if-not-firm.false))
+    (skip _ _ _ _ (firm_says _ _ _ c.firm.ensures c.row_of-row.ensures (search rules))
     (skip _ _ _ _ (sym c.bad_greatest.ensures ∙ c.if-bad_greatest.false) refl))))

@@ -21,10 +21,10 @@ counts_spec =
     counts_own _ _ _ _ _ _ c.requires.1 c.confirmed_after.ensures c.if-not-confirmed_after.false c.if-r-x.true)
     (λ c. omega (arith, ap length c.requires.1, own_length c.requires.0))
     (λ c.
-    counts_none _ _ _ _ _ _ c.requires.1 c.confirmed_after.ensures c.if-not-confirmed_after.false c.if-r-x.false c.if-r-ne-NONFIRM_REDIRECT.true)
+    counts_none _ _ _ _ _ _ c.requires.1 c.confirmed_after.ensures c.if-not-confirmed_after.false c.if-r-x.false (λ e. omega (arith, e)))
     (λ c. omega (arith, ap length c.requires.1, own_length c.requires.0))
     (λ c κs. search rules)
     (λ c κs.
-    (sized c.requires.0, above_in c.requires.0 c.requires.1 c.if-r-ne-NONFIRM_REDIRECT.false c.row_of-above.ensures))
+    (sized c.requires.0, above_in c.requires.0 c.requires.1 (omega arith) c.row_of-above.ensures))
     (λ c.
-    counts_above _ _ _ _ _ _ c.requires.1 c.confirmed_after.ensures c.if-not-confirmed_after.false c.if-r-x.false c.if-r-ne-NONFIRM_REDIRECT.false c.row_of-above.ensures c.is_holder.ensures))
+    counts_above _ _ _ _ _ _ c.requires.1 c.confirmed_after.ensures c.if-not-confirmed_after.false c.if-r-x.false (omega arith) c.row_of-above.ensures c.is_holder.ensures))

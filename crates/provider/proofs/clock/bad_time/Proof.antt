@@ -1,7 +1,10 @@
 -- `provider::clock::bad_time` meets its contract.
 use mathlib.Core.Path.{refl, ◌∙◌}
+use Prim.Native.Nat.{◌<◌, ◌≤◌}
+use native.Mathlib.Omega.{arith}
 use borrow.Author.Rules.{rules}
 use borrow.Author.Tests.{lt-ltb, le-ltb}
+use Rattle.rules.specs.Layout.{clock}
 use Rattle.rules.specs.Clock.{bad_time}
 use Rattle.rules.proofs.Picks.{or_stops, or_goes}
 use Rattle.provider.proofs.clock.bad_time.Statement.{statement}
@@ -13,5 +16,9 @@ bad_time_spec =
     tie.close
     (tie.spec
     (λ c. search rules)
-    (λ c. lt-ltb _ _ c.if-a-l.true ∙ or_stops _ _ (lt-ltb _ _ c.if-a-l.true))
-    (λ c. or_goes _ _ _ (le-ltb _ _ c.if-a-l.false) refl))
+    (λ c.
+    let early : c.args.a.time < clock c.args.l.now = omega arith in
+    lt-ltb _ _ early ∙ or_stops _ _ (lt-ltb _ _ early))
+    (λ c.
+    let on_time : clock c.args.l.now ≤ c.args.a.time = omega arith in
+    or_goes _ _ _ (le-ltb _ _ on_time) refl))

@@ -21,11 +21,11 @@ S c = c.before.before.before.before
 passed : (c : tie.Then-comes) → ProfilePassed (S c).args.words.now (S c).args.a (span_hours (row (S c).args.hours (S c).args.l.now (S c).args.n))
 passed c = (S c).requires.1.profile (sym c.comes.ensures ∙ c.if-comes.true)
 
-is-granted : (c : tie.Then-comes) → take ((S c).args.a.offset + (S c).args.a.length - (S c).args.a.offset) (drop (S c).args.a.offset (S c).args.words.now) ≡ granted_after (S c).args.hours (S c).args.words.now (S c).args.a (row (S c).args.hours (S c).args.l.now (S c).args.n)
-is-granted c = profile_lent (S c).args.words.now (S c).args.a (passed c).fits ∙ sym (granted_comes (S c).args.hours (S c).args.words.now (S c).args.a (row (S c).args.hours (S c).args.l.now (S c).args.n) (sym c.comes.ensures ∙ c.if-comes.true))
+is_granted : (c : tie.Then-comes) → take ((S c).args.a.offset + (S c).args.a.length - (S c).args.a.offset) (drop (S c).args.a.offset (S c).args.words.now) ≡ granted_after (S c).args.hours (S c).args.words.now (S c).args.a (row (S c).args.hours (S c).args.l.now (S c).args.n)
+is_granted c = profile_lent (S c).args.words.now (S c).args.a (passed c).fits ∙ sym (granted_comes (S c).args.hours (S c).args.words.now (S c).args.a (row (S c).args.hours (S c).args.l.now (S c).args.n) (sym c.comes.ensures ∙ c.if-comes.true))
 
-is-long : (c : tie.Then-comes) → length (take ((S c).args.a.offset + (S c).args.a.length - (S c).args.a.offset) (drop (S c).args.a.offset (S c).args.words.now)) ≡ span_hours (row (S c).args.hours (S c).args.l.now (S c).args.n)
-is-long c = ap length (profile_lent (S c).args.words.now (S c).args.a (passed c).fits) ∙ profile_length (passed c)
+is_long : (c : tie.Then-comes) → length (take ((S c).args.a.offset + (S c).args.a.length - (S c).args.a.offset) (drop (S c).args.a.offset (S c).args.words.now)) ≡ span_hours (row (S c).args.hours (S c).args.l.now (S c).args.n)
+is_long c = ap length (profile_lent (S c).args.words.now (S c).args.a (passed c).fits) ∙ profile_length (passed c)
 
 pub granted_number_spec : {M : Type 1} → statement M
 granted_number_spec =
@@ -39,8 +39,8 @@ granted_number_spec =
     (λ c. search rules)
     (λ c. search rules)
     (λ c. omega (arith, (passed c.before.before).fits))
-    (λ c κs. ((S c.before.before.before).requires.0, is-long c.before.before.before))
-    (λ c. let s = S c.before.before.before.before in c.fit_number.ensures ∙ ap (λ (v : List ℕ). fit_number s.args.hours s.args.l.now s.args.a v) (is-granted c.before.before.before.before ∙ of_named (granted_after s.args.hours s.args.words.now s.args.a) s.requires.0))
+    (λ c κs. ((S c.before.before.before).requires.0, is_long c.before.before.before))
+    (λ c. let s = S c.before.before.before.before in c.fit_number.ensures ∙ ap (λ (v : List ℕ). fit_number s.args.hours s.args.l.now s.args.a v) (is_granted c.before.before.before.before ∙ of_named (granted_after s.args.hours s.args.words.now s.args.a) s.requires.0))
     (λ c κs. search placed)
     (λ c κs. search rules)
     (λ c κs. search rules)

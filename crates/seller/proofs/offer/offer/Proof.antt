@@ -19,11 +19,11 @@ use Rattle.seller.proofs.offer.offer.Statement.{statement}
 use Rattle.seller.proofs.offer.offer.Tie as tie
 
 -- by the row n that is named
-offer-by : {l : List ℕ} {R H n : ℕ} {a : Action} → Named l R H a n → (w : List ℕ) {v : List ℕ}
+offer_by : {l : List ℕ} {R H n : ℕ} {a : Action} → Named l R H a n → (w : List ℕ) {v : List ℕ}
     → v ≡ when (goes_on a (row H l n)) (confirm H n (granted_after H w a (row H l n))) (on_row H n (offered H (clock l + window l) a (granted_after H w a (row H l n))) l)
     → v ≡ offer_after H l a (granted_after H w a (named_row H l a))
 unfolding offer_after
-offer-by {l} {R} {H} {n} {a} m w e =
+offer_by {l} {R} {H} {n} {a} m w e =
     e ∙ ap (λ (k : ℕ). when (goes_on a (row H l k)) (confirm H k (granted_after H w a (row H l k))) (on_row H k (offered H (clock l + window l) a (granted_after H w a (row H l k))) l)) m.is
 
 abbrev S : tie.After-confirm_own-arg-1 → tie.Start
@@ -48,7 +48,7 @@ offer_spec =
     (λ c κs. (c.requires.named.placed, (c.requires.suits, c.requires.price)))
     (λ c. search rules)
     (λ c.
-    offer-by c.requires.named c.args.words.now
+    offer_by c.requires.named c.args.words.now
     (skip _ _ _ _ (sym c.goes_on-goes.ensures ∙ c.if-not-goes.true) c.put_offer.ensures))
     (λ c κs.
     let k = confirms c in
@@ -63,7 +63,7 @@ offer_spec =
     (λ c.
     let t = c.before.before.before in
     let s = S t in
-    offer-by s.requires.named s.args.words.now
+    offer_by s.requires.named s.args.words.now
     (hit_by _ _ _ _ (sym t.goes_on-goes.ensures ∙ t.if-not-goes.false)
     (c.confirm_own.ensures
     ∙ ap (λ (v : List ℕ). confirm s.args.hours s.args.n v t.put_offer.new.l) (confirms t).force

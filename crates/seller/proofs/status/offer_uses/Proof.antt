@@ -36,11 +36,11 @@ G s = granted_after (H s) s.args.words.now s.args.a (named_row (H s) s.args.l.no
 on : (c : tie.After-goes_on) → c.goes_on.result ≡ goes_on (S c).args.a (named_row (H (S c)) (S c).args.l.now (S c).args.a)
 on c = let s = S c in c.goes_on.ensures ∙ ap (λ (k : ℕ). goes_on s.args.a (row (H s) s.args.l.now k)) s.requires.1.0.is
 
-yes-on : (c : tie.Else-not-goes_on) → goes_on (S c.before).args.a (named_row (H (S c.before)) (S c.before).args.l.now (S c.before).args.a) ≡ true
-yes-on c = sym (on c.before) ∙ c.if-not-goes_on.false
+yes_on : (c : tie.Else-not-goes_on) → goes_on (S c.before).args.a (named_row (H (S c.before)) (S c.before).args.l.now (S c.before).args.a) ≡ true
+yes_on c = sym (on c.before) ∙ c.if-not-goes_on.false
 
 enough : (c : tie.Else-not-goes_on) → short (H (S c.before)) (S c.before).args.l.now (named (S c.before).args.a) (G (S c.before)) ≡ false
-enough c = (confirm_passed _ _ _ _ _ ((S c.before).requires.1.1.0.confirms (yes-on c))).short
+enough c = (confirm_passed _ _ _ _ _ ((S c.before).requires.1.1.0.confirms (yes_on c))).short
 
 -- row n is the named one
 at : (s : tie.Start) → (mw : List ℕ) → exceeds_at (H s) s.args.l.now s.args.n s.args.postings.now (λ x h. use_confirming (H s) s.args.l.now s.args.n mw x h) ≡ exceeds_at (H s) s.args.l.now (named s.args.a) s.args.postings.now (λ x h. use_confirming (H s) s.args.l.now (named s.args.a) mw x h)
@@ -66,8 +66,8 @@ passed c = (T c.before).requires.1.1.0.profile (came c)
 lent : (c : tie.Else-not-comes) → take ((T c.before).args.a.offset + (T c.before).args.a.length - (T c.before).args.a.offset) (drop (T c.before).args.a.offset (T c.before).args.words.now) ≡ profile (T c.before).args.words.now (T c.before).args.a
 lent c = profile_lent (T c.before).args.words.now (T c.before).args.a (passed c).fits
 
-is-granted : (c : tie.Else-not-comes) → take ((T c.before).args.a.offset + (T c.before).args.a.length - (T c.before).args.a.offset) (drop (T c.before).args.a.offset (T c.before).args.words.now) ≡ G (T c.before)
-is-granted c = let s = T c.before in lent c ∙ sym (granted_comes (H s) s.args.words.now s.args.a (named_row (H s) s.args.l.now s.args.a) (came c))
+is_granted : (c : tie.Else-not-comes) → take ((T c.before).args.a.offset + (T c.before).args.a.length - (T c.before).args.a.offset) (drop (T c.before).args.a.offset (T c.before).args.words.now) ≡ G (T c.before)
+is_granted c = let s = T c.before in lent c ∙ sym (granted_comes (H s) s.args.words.now s.args.a (named_row (H s) s.args.l.now s.args.a) (came c))
 
 pub offer_uses_spec : {M : Type 1} → statement M
 unfolding offer_uses
@@ -93,7 +93,7 @@ offer_uses_spec =
     (λ c.
     let t = c.before in
     let s = T t.before in
-    and_goes _ _ _ (yes-on t.before.before)
+    and_goes _ _ _ (yes_on t.before.before)
     (c.exceeds_confirming_own.ensures
     ∙ ap (λ (v : List ℕ). exceeds_at (H s) s.args.l.now s.args.n s.args.postings.now (λ x h. use_confirming (H s) s.args.l.now s.args.n v x h)) (force t)
     ∙ at s (G s)))
@@ -116,7 +116,7 @@ offer_uses_spec =
             ap (λ (v : List ℕ). within most_megawatts v) (lent e) ∙ (passed e).most,
           ),
           (
-            ap (λ (v : List ℕ). short (H s) s.args.l.now s.args.n v) (is-granted e)
+            ap (λ (v : List ℕ). short (H s) s.args.l.now s.args.n v) (is_granted e)
                 ∙ ap (λ (k : ℕ). short (H s) s.args.l.now k (G s)) s.requires.1.0.is
                 ∙ enough e.before.before,
             s.requires.1.1.1,
@@ -127,7 +127,7 @@ offer_uses_spec =
     (λ c.
     let e = c.before.before.before.before in
     let s = T e.before in
-    and_goes _ _ _ (yes-on e.before.before)
+    and_goes _ _ _ (yes_on e.before.before)
     (c.exceeds_confirming.ensures
-    ∙ ap (λ (v : List ℕ). exceeds_at (H s) s.args.l.now s.args.n s.args.postings.now (λ x h. use_confirming (H s) s.args.l.now s.args.n v x h)) (is-granted e)
+    ∙ ap (λ (v : List ℕ). exceeds_at (H s) s.args.l.now s.args.n s.args.postings.now (λ x h. use_confirming (H s) s.args.l.now s.args.n v x h)) (is_granted e)
     ∙ at s (G s))))

@@ -22,11 +22,11 @@ S c = c.before.before.before.before.before.before
 passed : (c : tie.Else-not-comes) → ProfilePassed (S c).args.words.now (S c).args.a (span_hours (row (S c).args.hours (S c).args.l.now (S c).args.n))
 passed c = (S c).requires.1.profile (sym c.comes.ensures ∙ c.if-not-comes.false)
 
-is-granted : (c : tie.Else-not-comes) → take ((S c).args.a.offset + (S c).args.a.length - (S c).args.a.offset) (drop (S c).args.a.offset (S c).args.words.now) ≡ granted_after (S c).args.hours (S c).args.words.now (S c).args.a (row (S c).args.hours (S c).args.l.now (S c).args.n)
-is-granted c = profile_lent (S c).args.words.now (S c).args.a (passed c).fits ∙ sym (granted_comes (S c).args.hours (S c).args.words.now (S c).args.a (row (S c).args.hours (S c).args.l.now (S c).args.n) (sym c.comes.ensures ∙ c.if-not-comes.false))
+is_granted : (c : tie.Else-not-comes) → take ((S c).args.a.offset + (S c).args.a.length - (S c).args.a.offset) (drop (S c).args.a.offset (S c).args.words.now) ≡ granted_after (S c).args.hours (S c).args.words.now (S c).args.a (row (S c).args.hours (S c).args.l.now (S c).args.n)
+is_granted c = profile_lent (S c).args.words.now (S c).args.a (passed c).fits ∙ sym (granted_comes (S c).args.hours (S c).args.words.now (S c).args.a (row (S c).args.hours (S c).args.l.now (S c).args.n) (sym c.comes.ensures ∙ c.if-not-comes.false))
 
-is-long : (c : tie.Else-not-comes) → length (take ((S c).args.a.offset + (S c).args.a.length - (S c).args.a.offset) (drop (S c).args.a.offset (S c).args.words.now)) ≡ span_hours (row (S c).args.hours (S c).args.l.now (S c).args.n)
-is-long c = ap length (profile_lent (S c).args.words.now (S c).args.a (passed c).fits) ∙ profile_length (passed c)
+is_long : (c : tie.Else-not-comes) → length (take ((S c).args.a.offset + (S c).args.a.length - (S c).args.a.offset) (drop (S c).args.a.offset (S c).args.words.now)) ≡ span_hours (row (S c).args.hours (S c).args.l.now (S c).args.n)
+is_long c = ap length (profile_lent (S c).args.words.now (S c).args.a (passed c).fits) ∙ profile_length (passed c)
 
 pub over_offer_spec : {M : Type 1} → statement M
 unfolding over_offer
@@ -45,5 +45,5 @@ over_offer_spec =
     (λ c. search rules)
     (λ c. search rules)
     (λ c. omega (arith, (passed c.before.before).fits))
-    (λ c κs. ((S c.before.before.before).requires.0, is-long c.before.before.before))
-    (λ c. let s = S c.before.before.before.before in and_goes _ _ _ (sym c.goes_on.ensures ∙ c.if-not-goes_on.false) (c.over_confirming.ensures ∙ ap (λ (v : List ℕ). over_confirming s.args.hours s.args.l.now s.args.n v) (is-granted c.before.before.before.before))))
+    (λ c κs. ((S c.before.before.before).requires.0, is_long c.before.before.before))
+    (λ c. let s = S c.before.before.before.before in and_goes _ _ _ (sym c.goes_on.ensures ∙ c.if-not-goes_on.false) (c.over_confirming.ensures ∙ ap (λ (v : List ℕ). over_confirming s.args.hours s.args.l.now s.args.n v) (is_granted c.before.before.before.before))))

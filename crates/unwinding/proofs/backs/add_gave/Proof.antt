@@ -20,16 +20,16 @@ add_gave_spec =
     (λ c. let p = c.requires in omega (arith, p.1.0.0, few p.0, p.1.0.1))
     (λ c.
     adds_none _ (gave_unmarked c.args.hours c.args.l.now (marked c.args.marks.now) c.args.m
-    c.args.j (mark_off _ _ c.if-marks-j-eq0.true)))
+    c.args.j (mark_off _ _ (omega arith))))
     (λ c κs. let p = c.requires in (sized_at p.0, in_rows p.0 p.1.0.0))
     (λ c.
     adds_none _ (gave_nothing c.args.hours c.args.l.now (marked c.args.marks.now) c.args.m
-    c.args.j (mark_on _ _ c.if-marks-j-eq0.false) (sym c.gives_to.ensures ∙ c.if-not-gives_to.true)))
+    c.args.j (mark_on _ _ (λ e. omega (arith, e))) (sym c.gives_to.ensures ∙ c.if-not-gives_to.true)))
     (λ c κs.
     let p = c.requires in
     (p.0, ((p.1.0.0, lit< tt), sums_wider (omega arith) p.1.1)))
     (λ c. search rules)
     (λ c.
     adds_as (λ h _. gave c.args.hours c.args.l.now (marked c.args.marks.now) c.args.m c.args.j
-    (mark_on _ _ c.if-marks-j-eq0.false) (sym c.gives_to.ensures ∙ c.if-not-gives_to.false) h)
+    (mark_on _ _ (λ e. omega (arith, e))) (sym c.gives_to.ensures ∙ c.if-not-gives_to.false) h)
     c.add_hours.ensures))
