@@ -860,34 +860,6 @@ fn charge_at_the_bounds_of_64_bits() {
     assert_eq!(charge(&desk.ledger, all), Ok(74_400_000 * 99_999_999 / 24));
 }
 
-#[test]
-fn stamps_are_read() {
-    assert_eq!(read_stamp(b"20070423060000ES"), Ok(230_641_200));
-    assert_eq!(read_stamp(b"20000229000000UT"), Ok(5_097_600));
-    assert_eq!(read_stamp(b"20991231235959UT"), Ok(3_155_759_999));
-    for stamp in [
-        "20070423220070ES",
-        "20991231190000ES",
-        "20010229000000UT",
-        "20070431000000UT",
-        "20071301000000UT",
-        "20070001000000UT",
-        "20070100000000UT",
-        "20070101240000UT",
-        "20070101006000UT",
-        "19991231235959ES",
-        "21000101000000UT",
-        "20070101000000ut",
-        "20070101000000XX",
-        "2007010100000 UT",
-        "20070101000000U",
-        "20070101000000UT0",
-        "",
-    ] {
-        assert_eq!(read_stamp(stamp.as_bytes()), Err(NOT_A_STAMP), "{stamp}");
-    }
-}
-
 /// Each is refused.
 const NO_STAMPS: [&str; 19] = [
     "20070423220070ES",
@@ -910,6 +882,16 @@ const NO_STAMPS: [&str; 19] = [
     "20070101000000UT0",
     "",
 ];
+
+#[test]
+fn stamps_are_read() {
+    assert_eq!(read_stamp(b"20070423060000ES"), Ok(230_641_200));
+    assert_eq!(read_stamp(b"20000229000000UT"), Ok(5_097_600));
+    assert_eq!(read_stamp(b"20991231235959UT"), Ok(3_155_759_999));
+    for stamp in NO_STAMPS {
+        assert_eq!(read_stamp(stamp.as_bytes()), Err(NOT_A_STAMP), "{stamp}");
+    }
+}
 
 #[test]
 fn stamps_are_compared_by_their_seconds() {
