@@ -1,170 +1,106 @@
-// Words of the ledger, or of the postings, that a line names.
-ghost use Rattle.std.specs.Prelude.{◌<◌, ◌≤◌};
-ghost use Rattle.rules.specs.Numbers.{most_hours, profiles};
-
-use check::same;
+// Words of the ledger, or of the postings, that a line names. There are none where it names too much.
 use layout::numbers::*;
+use layout::profile::Profile;
+use layout::size::Size;
 use rules::Reference;
+use std::ops::Range;
 
-// So many words from a place on.
-#[derive(Drop)]
-pub struct Part {
-    pub from: usize,
-    pub count: usize,
+// Where the rows of a ledger and the postings of its paths lie, by the hours that its head names.
+#[derive(Clone, Copy)]
+pub struct Layout {
+    size: Size,
 }
 
-// No ledger here has so many words.
-const NOWHERE: usize = 4294967296;
+impl Layout {
+    // With no hours where the words are too few, or the hours too many.
+    pub fn of(ledger: &[u32]) -> Layout {
+        let hours = match ledger.get(HOURS) {
+            Some(hours) if HEAD_WORDS <= ledger.len() && *hours <= MOST_HOURS => *hours as usize,
+            _ => 0,
+        };
+        Layout {
+            size: Size {
+                rows: MOST_ROWS as usize,
+                hours,
+            },
+        }
+    }
 
-fn part_at(from: usize, count: usize) -> Part
-    requires { from ≤ 4294967296 }
-    ensures { result.from ≤ 4294967296 }
-{
-    Part { from, count }
-}
+    // Where the row of a reference starts.
+    fn row_start(self, reference: u32) -> Option<usize> {
+        if reference == 0 || MOST_ROWS < reference {
+            return None;
+        }
+        let row = rules::row_of(Reference(reference));
+        Some(self.size.end_at(row.0))
+    }
 
-// The hours of a profile; no more than a ledger may have.
-pub fn hours_of(l: &[u32]) -> usize
-    ensures { result ≤ most_hours }
-{
-    if l.len() < HEAD_WORDS {
-        return 0;
+    // Where a profile lies in a row.
+    fn profile(self, profile: Profile) -> Range<usize> {
+        let hours = self.size.hours;
+        let start = profile.hours_at(self.size, 0, hours);
+        start..start + hours
     }
-    let hours = l[HOURS];
-    if MOST_HOURS < hours {
-        return 0;
-    }
-    hours as usize
-}
 
-// Where the row of a reference starts.
-fn row_start(hours: usize, reference: u32) -> usize
-    requires { hours ≤ most_hours }
-    ensures { result ≤ 4294967296 }
-{
-    if MOST_ROWS < reference {
-        return NOWHERE;
+    // The part of a row that a verb names: what stands before its path, a part of that, the path, or a profile.
+    fn part_of_row(self, verb: &str) -> Option<Range<usize>> {
+        match verb {
+            "row" => Some(REQTYPE..PATH),
+            "status" => Some(STATUS..STATUS + 1),
+            "flags" => Some(FLAGS..FLAGS + 1),
+            "prices" => Some(BID..OFFER + 1),
+            "limit" => Some(LIMIT..LIMIT + 1),
+            "path" => Some(PATH..PATH + 1),
+            "requested" => Some(self.profile(Profile::Requested)),
+            "granted" => Some(self.profile(Profile::Granted)),
+            "available" => Some(self.profile(Profile::Available)),
+            "displaced" => Some(self.profile(Profile::Displaced)),
+            "reduced" => Some(self.profile(Profile::Reduced)),
+            _ => None,
+        }
     }
-    if reference == 0 {
-        return NOWHERE;
-    }
-    let n = rules::row_of(Reference(reference));
-    let n = n.0;
-    layout::create::end_at(hours, n)
-}
 
-// Profile p of a row.
-fn profile(hours: usize, p: usize) -> Part
-    requires { (hours ≤ most_hours) × (p < profiles) }
-    ensures { result.from ≤ 4294967296 }
-{
-    part_at(layout::rows::hours_at(hours, p, 0, hours), hours)
-}
+    // Where the postings of a path start.
+    fn postings_start(self, path: u32) -> Option<usize> {
+        if path == 0 || MOST_PATH < path {
+            return None;
+        }
+        Some((path as usize - 1) * self.size.hours)
+    }
 
-// The words of a row before its profiles that a verb names: those before its path, one of them, or the path.
-fn words_of_row(verb: &[u8]) -> Part
-    ensures { result.from ≤ 4294967296 }
-{
-    if same(verb, b"row") {
-        return part_at(REQTYPE, PATH);
+    // The postings of a path.
+    pub fn postings_of(self, postings: &[u32], path: u32) -> Option<&[u32]> {
+        postings
+            .get(self.postings_start(path)?..)?
+            .get(..self.size.hours)
     }
-    if same(verb, b"status") {
-        return part_at(STATUS, 1);
-    }
-    if same(verb, b"flags") {
-        return part_at(FLAGS, 1);
-    }
-    if same(verb, b"prices") {
-        return part_at(BID, 2);
-    }
-    if same(verb, b"limit") {
-        return part_at(LIMIT, 1);
-    }
-    if same(verb, b"path") {
-        return part_at(PATH, 1);
-    }
-    part_at(NOWHERE, 0)
-}
 
-// The words of a row that a verb names: a profile, or some before them.
-fn part_of_row(verb: &[u8], hours: usize) -> Part
-    requires { hours ≤ most_hours }
-    ensures { result.from ≤ 4294967296 }
-{
-    if same(verb, b"requested") {
-        return profile(hours, REQUESTED_PART);
+    // The posting of an hour of a path.
+    pub fn posting_mut(self, postings: &mut [u32], path: u32, hour: u32) -> Option<&mut u32> {
+        let hour = hour as usize;
+        if self.size.hours <= hour {
+            return None;
+        }
+        let start = self.postings_start(path)?;
+        postings.get_mut(start..)?.get_mut(hour)
     }
-    if same(verb, b"granted") {
-        return profile(hours, GRANTED_PART);
-    }
-    if same(verb, b"available") {
-        return profile(hours, AVAILABLE_PART);
-    }
-    if same(verb, b"displaced") {
-        return profile(hours, DISPLACED_PART);
-    }
-    if same(verb, b"reduced") {
-        return profile(hours, REDUCED_PART);
-    }
-    words_of_row(verb)
 }
 
 // The words that a verb names with a reference; `head` stands alone.
-pub fn part_named(l: &[u32], verb: &[u8], f: &[u32]) -> Part {
-    if f.len() == 0 {
-        return part_of_head(verb);
-    }
-    if f.len() != 1 {
-        return part_at(NOWHERE, 0);
-    }
-    let hours = hours_of(l);
-    let in_row = part_of_row(verb, hours);
-    Part {
-        from: row_start(hours, f[0]) + in_row.from,
-        count: in_row.count,
+pub fn words_named<'a>(ledger: &'a [u32], verb: &str, fields: &[u32]) -> Option<&'a [u32]> {
+    match fields {
+        [] if verb == "head" => ledger.get(..HEAD_WORDS),
+        [reference] => {
+            let layout = Layout::of(ledger);
+            let row = ledger.get(layout.row_start(*reference)?..)?;
+            row.get(layout.part_of_row(verb)?)
+        }
+        _ => None,
     }
 }
 
-fn part_of_head(verb: &[u8]) -> Part {
-    if same(verb, b"head") {
-        return part_at(ROWS, HEAD_WORDS);
-    }
-    part_at(NOWHERE, 0)
-}
-
-// A word as a place.
-pub fn place(word: u32) -> usize
-    ensures { result ≤ 4294967295 }
-{
-    word as usize
-}
-
-// Word k of the row of a reference.
-pub fn word_of_row(l: &[u32], reference: u32, k: u32) -> usize {
-    row_start(hours_of(l), reference) + place(k)
-}
-
-// Where the postings of a path start.
-pub fn posting_start(hours: usize, path: u32) -> usize
-    requires { hours ≤ most_hours }
-    ensures { result ≤ 4294967296 }
-{
-    if MOST_PATH < path {
-        return NOWHERE;
-    }
-    if path == 0 {
-        return NOWHERE;
-    }
-    (path as usize - 1) * hours
-}
-
-// Where an hour of a path stands in the postings.
-pub fn posting_at(hours: usize, path: u32, hour: u32) -> usize
-    requires { hours ≤ most_hours }
-{
-    let h = place(hour);
-    if hours <= h {
-        return NOWHERE;
-    }
-    posting_start(hours, path) + h
+// The word at a place in the row of a reference, or in what follows it.
+pub fn word_of_row_mut(ledger: &mut [u32], reference: u32, place: u32) -> Option<&mut u32> {
+    let start = Layout::of(ledger).row_start(reference)?;
+    ledger.get_mut(start..)?.get_mut(place as usize)
 }

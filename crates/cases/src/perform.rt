@@ -1,419 +1,284 @@
-// A line with its numbers carried out: what it gives is put at the front of `got`.
-ghost use Rattle.std.specs.Prelude.{◌≤◌};
-ghost use Rattle.rules.specs.Numbers.{most_hours};
-
-use crate::ask::Asked;
-use crate::text::{MOST_NUMBERS, Numbers, listed};
+// A line carried out on the words that are lent.
+use crate::lent::Lent;
+use crate::look::Layout;
+use crate::report::Unfit;
+use crate::text::{Line, MOST_NUMBERS};
 use crate::{ask, look};
-use check::same;
+use layout::create::Creation;
 use layout::numbers::DISPLACED;
-use ledger::numbering::POST;
-use rules::{Action, Answer, Contest};
+use rules::{Action, Answer, Contest, Kind, number_of};
+use std::alloc::{AllocError, Global};
 
-// How many numbers came; the same from an action; a length for the ledger; a word was altered that must stay; no such
-// line.
-#[derive(Drop)]
-pub enum Ran {
-    Numbers(usize),
-    Acted(usize),
-    Room(usize),
-    Altered,
-    Unreadable,
-}
+// The longest ledger, and the longest postings.
+const LEDGER_WORDS: usize = 24576;
 
-// Words of an answer.
-const ANSWER: usize = 5;
-
-// Words of a contest before its moves.
-const CONTEST_FIELDS: usize = 4;
+const POSTINGS_WORDS: usize = 49152;
 
 // A charge is shown as its millions of cents and the rest.
 const MILLION: u64 = 1000000;
 
-const WORD_END: u64 = 4294967296;
-
-fn word_of(n: u64) -> u32 {
-    (n % WORD_END) as u32
+// What a line gives: the answer to an action or a contest, or the numbers of another line.
+#[derive(Drop)]
+pub enum Shown {
+    Answer(Answer),
+    Numbers(Vec<u32>),
 }
 
-fn differs(a: u32, b: u32) -> u32 {
-    if a == b {
-        return 0;
-    }
-    1
-}
-
-// How many words of two slices of one length differ.
-fn differing(a: &[u32], b: &[u32]) -> u32 {
-    let mut count = 0u32;
-    for k in 0..a.len() {
-        if k < b.len() {
-            count = std::num::wrapping_add_u32(count, differs(a[k], b[k]));
+impl Shown {
+    pub fn into_numbers(self, alloc: Global) -> Result<Vec<u32>, AllocError> {
+        match self {
+            Shown::Answer(
+                Answer {
+                    number,
+                    reference,
+                    before,
+                    after,
+                    moved,
+                },
+            ) => Ok(vec![in alloc; number, reference, before, after, moved]?),
+            Shown::Numbers(numbers) => Ok(numbers),
         }
     }
-    count
 }
 
-// Whether two slices have the same words. The ledger's own functions are not asked: they are what is tested.
-pub fn same_words(a: &[u32], b: &[u32]) -> bool {
-    if a.len() != b.len() {
-        return false;
-    }
-    differing(a, b) == 0
+// What a call may have altered.
+#[derive(Clone, Copy)]
+enum MayAlter {
+    Nothing,
+    Ledger,
+    Postings,
 }
 
-// Every word becomes the same.
-pub fn fill(words: &mut [u32], word: u32) {
-    for k in 0..words.len() {
-        words[k] = word;
-    }
+// The ledger and the postings.
+#[derive(Drop)]
+pub struct Desk {
+    ledger: Lent,
+    postings: Lent,
 }
 
-fn one(got: &mut [u32; MOST_NUMBERS], number: u32) -> Ran {
-    got[0] = number;
-    Ran::Numbers(1)
-}
+impl Desk {
+    pub fn new(alloc: Global) -> Result<Desk, AllocError> {
+        Ok(Desk {
+            ledger: Lent::new(alloc, LEDGER_WORDS)?,
+            postings: Lent::new(alloc, POSTINGS_WORDS)?,
+        })
+    }
 
-// Words to the front of `got`.
-fn show(got: &mut [u32], ws: &[u32]) -> Ran {
-    let count = ws.len();
-    if got.len() < count {
-        return Ran::Unreadable;
-    }
-    words::copy(&mut got[0..count], ws);
-    Ran::Numbers(count)
-}
-
-// A part of the ledger or of the postings.
-fn show_part(l: &[u32], from: usize, count: usize, got: &mut [u32; MOST_NUMBERS]) -> Ran {
-    if l.len() < from {
-        return Ran::Unreadable;
-    }
-    if l.len() - from < count {
-        return Ran::Unreadable;
-    }
-    show(got, &l[from..from + count])
-}
-
-// rows, hours, provider, window, base. A refusal must alter nothing.
-fn create(l: &mut [u32], before: &mut [u32], f: &[u32], got: &mut [u32; MOST_NUMBERS]) -> Ran {
-    if f.len() != 5 {
-        return Ran::Unreadable;
-    }
-    if before.len() != l.len() {
-        return Ran::Unreadable;
-    }
-    words::copy(before, l);
-    let number = layout::create::create(l, f[0], f[1], f[2], f[3], f[4]);
-    if (number != 0) & !same_words(l, before) {
-        return Ran::Altered;
-    }
-    one(got, number)
-}
-
-// A copy of the words, made where they have place.
-fn copied(before: &mut [u32], words: &[u32]) -> bool {
-    if before.len() != words.len() {
-        return false;
-    }
-    words::copy(before, words);
-    true
-}
-
-// The numbers of an answer.
-fn show_answer(r: Answer, got: &mut [u32; MOST_NUMBERS]) -> Ran {
-    got[0] = r.number;
-    got[1] = r.reference;
-    got[2] = r.before;
-    got[3] = r.after;
-    got[4] = r.moved;
-    Ran::Acted(ANSWER)
-}
-
-// Words that may have been written, or are as they were.
-fn kept(may_write: bool, words: &[u32], before: &[u32]) -> bool {
-    if may_write {
-        return true;
-    }
-    same_words(words, before)
-}
-
-// A refusal must alter nothing, a posting no word of the ledger, and any other action no posting.
-fn stays(
-    kind: u32,
-    number: u32,
-    l: &[u32],
-    before: &[u32],
-    postings: &[u32],
-    posted_before: &[u32],
-) -> bool {
-    let accepted = number == 0;
-    let posts = kind == POST;
-    kept(accepted & !posts, l, before) & kept(accepted & posts, postings, posted_before)
-}
-
-// An action, and what must stay compared with the copies.
-fn act(
-    l: &mut [u32],
-    before: &mut [u32],
-    postings: &mut [u32],
-    posted_before: &mut [u32],
-    profile: &[u32],
-    a: Action,
-    got: &mut [u32; MOST_NUMBERS],
-) -> Ran {
-    if !copied(before, l) | !copied(posted_before, postings) {
-        return Ran::Unreadable;
-    }
-    let r = ledger::act(l, postings, profile, a);
-    if stays(a.kind, r.number, l, before, postings, posted_before) {
-        return show_answer(r, got);
-    }
-    Ran::Altered
-}
-
-// actor, reference, the greatest terms of challenger and holder, and then the challenger's moves. Only a row lost may
-// alter the ledger, and no contest a posting.
-fn run_contest(
-    l: &mut [u32],
-    before: &mut [u32],
-    postings: &[u32],
-    posted_before: &mut [u32],
-    f: &[u32],
-    replies: &[u32],
-    got: &mut [u32; MOST_NUMBERS],
-) -> Ran {
-    if f.len() < CONTEST_FIELDS {
-        return Ran::Unreadable;
-    }
-    if !copied(before, l) | !copied(posted_before, postings) {
-        return Ran::Unreadable;
-    }
-    let k = Contest {
-        actor: f[0],
-        reference: f[1],
-        challenger: f[2],
-        holder: f[3],
-    };
-    let r = contest::run_contest(l, postings, k, &f[CONTEST_FIELDS..], replies);
-    if kept(r.after == DISPLACED, l, before) & same_words(postings, posted_before) {
-        return show_answer(r, got);
-    }
-    Ran::Altered
-}
-
-// The number that opening gives.
-fn open(l: &[u32], f: &[u32], got: &mut [u32; MOST_NUMBERS]) -> Ran {
-    if f.len() != 0 {
-        return Ran::Unreadable;
-    }
-    one(got, opening::open_number(l))
-}
-
-// Yes as a number.
-fn yes(answer: bool) -> u32 {
-    if answer {
-        return 1;
-    }
-    0
-}
-
-// Whether the annulments of the references, one after another, are all accepted.
-fn annuls(l: &[u32], postings: &[u32], references: &[u32], got: &mut [u32; MOST_NUMBERS]) -> Ran {
-    let answer = unwinding::annuls_in_order(l, postings, references);
-    one(got, yes(answer))
-}
-
-// The number of the charge of a row, its millions of cents and the cents beyond them.
-fn charge(l: &[u32], f: &[u32], got: &mut [u32; MOST_NUMBERS]) -> Ran {
-    if f.len() != 1 {
-        return Ran::Unreadable;
-    }
-    let charged = readout::charge(l, f[0]);
-    got[0] = charged.number;
-    got[1] = word_of(charged.cents / MILLION);
-    got[2] = word_of(charged.cents % MILLION);
-    Ran::Numbers(3)
-}
-
-// The profile in force of a row.
-fn profile(l: &[u32], f: &[u32], got: &mut [u32; MOST_NUMBERS]) -> Ran {
-    if f.len() != 1 {
-        return Ran::Unreadable;
-    }
-    show(got, readout::profile_in_force(l, f[0]))
-}
-
-// A word of the ledger, or of the postings, overwritten.
-fn spoil(words: &mut [u32], at: usize, value: u32) -> Ran {
-    if words.len() <= at {
-        return Ran::Unreadable;
-    }
-    words[at] = value;
-    Ran::Numbers(0)
-}
-
-// place in the head, word
-fn spoil_head(l: &mut [u32], f: &[u32]) -> Ran {
-    if f.len() != 2 {
-        return Ran::Unreadable;
-    }
-    let at = look::place(f[0]);
-    spoil(l, at, f[1])
-}
-
-// reference, place in its row, word
-fn spoil_row(l: &mut [u32], f: &[u32]) -> Ran {
-    if f.len() != 3 {
-        return Ran::Unreadable;
-    }
-    let at = look::word_of_row(&l[..], f[0], f[1]);
-    spoil(l, at, f[2])
-}
-
-// path, hour, word
-fn spoil_posting(postings: &mut [u32], hours: usize, f: &[u32]) -> Ran
-    requires { hours ≤ most_hours }
-{
-    if f.len() != 3 {
-        return Ran::Unreadable;
-    }
-    let at = look::posting_at(hours, f[0], f[1]);
-    spoil(postings, at, f[2])
-}
-
-// The postings of a path.
-fn show_posted(postings: &[u32], hours: usize, f: &[u32], got: &mut [u32; MOST_NUMBERS]) -> Ran
-    requires { hours ≤ most_hours }
-{
-    if f.len() != 1 {
-        return Ran::Unreadable;
-    }
-    show_part(postings, look::posting_start(hours, f[0]), hours, got)
-}
-
-// The words that the verb names.
-fn words_named(verb: &[u8], f: &[u32], l: &[u32], got: &mut [u32; MOST_NUMBERS]) -> Ran {
-    let p = look::part_named(l, verb, f);
-    let from = p.from;
-    let count = p.count;
-    show_part(l, from, count, got)
-}
-
-// A length for the ledger that is lent.
-fn room(f: &[u32]) -> Ran {
-    if f.len() != 1 {
-        return Ran::Unreadable;
-    }
-    Ran::Room(look::place(f[0]))
-}
-
-// The lines about postings that are no action, annulments in order among them; then those about the ledger alone.
-fn other(
-    verb: &[u8],
-    f: &[u32],
-    l: &mut [u32],
-    before: &mut [u32],
-    postings: &mut [u32],
-    posted_before: &mut [u32],
-    got: &mut [u32; MOST_NUMBERS],
-) -> Ran {
-    if same(verb, b"spoil-posting") {
-        return spoil_posting(postings, look::hours_of(&l[..]), f);
-    }
-    if same(verb, b"posted") {
-        return show_posted(&postings[..], look::hours_of(&l[..]), f, got);
-    }
-    if same(verb, b"altered-postings") {
-        return one(got, differing(&postings[..], &posted_before[..]));
-    }
-    if same(verb, b"annuls") {
-        return annuls(&l[..], &postings[..], f, got);
-    }
-    of_ledger(verb, f, l, before, got)
-}
-
-fn of_ledger(
-    verb: &[u8],
-    f: &[u32],
-    l: &mut [u32],
-    before: &mut [u32],
-    got: &mut [u32; MOST_NUMBERS],
-) -> Ran {
-    if same(verb, b"room") {
-        return room(f);
-    }
-    if same(verb, b"create") {
-        return create(l, before, f, got);
-    }
-    if same(verb, b"spoil-head") {
-        return spoil_head(l, f);
-    }
-    if same(verb, b"spoil-row") {
-        return spoil_row(l, f);
-    }
-    if same(verb, b"open") {
-        return open(&l[..], f, got);
-    }
-    if same(verb, b"charge") {
-        return charge(&l[..], f, got);
-    }
-    if same(verb, b"profile") {
-        return profile(&l[..], f, got);
-    }
-    if same(verb, b"altered") {
-        return one(got, differing(&l[..], &before[..]));
-    }
-    words_named(verb, f, &l[..], got)
-}
-
-fn perform_listed(
-    verb: &[u8],
-    f: &[u32],
-    profile: &[u32],
-    l: &mut [u32],
-    before: &mut [u32],
-    postings: &mut [u32],
-    posted_before: &mut [u32],
-    got: &mut [u32; MOST_NUMBERS],
-) -> Ran {
-    if same(verb, b"contest") {
-        return run_contest(l, before, &postings[..], posted_before, f, profile, got);
-    }
-    let asked = ask::action_asked(verb, f, word_of(profile.len() as u64));
-    match asked {
-        Asked::Action(a) => act(l, before, postings, posted_before, profile, a, got),
-        Asked::Nothing => {
-            if profile.len() != 0 {
-                return Ran::Unreadable;
+    pub fn perform(&mut self, alloc: Global, line: &Line) -> Result<Shown, Unfit> {
+        if let Some(action) = ask::action_asked(line)? {
+            let answer = self.act(action, &line.profile)?;
+            return Ok(Shown::Answer(answer));
+        }
+        match line.verb {
+            "contest" => {
+                let answer = self.contest(&line.fields, &line.profile)?;
+                Ok(Shown::Answer(answer))
             }
-            other(verb, f, l, before, postings, posted_before, got)
+            "postings" => {
+                self.lend_postings(&line.fields, &line.expected)?;
+                Ok(Shown::Numbers(Vec::new(alloc)))
+            }
+            verb if line.profile.is_empty() => {
+                let numbers = self.numbers(alloc, verb, &line.fields)?;
+                Ok(Shown::Numbers(numbers))
+            }
+            _ => Err(Unfit::Unreadable),
         }
+    }
+
+    // What the lines that are no action and no contest give. They have no profile.
+    fn numbers(&mut self, alloc: Global, verb: &str, fields: &[u32]) -> Result<Vec<u32>, Unfit> {
+        let mut numbers = Vec::new(alloc);
+        match verb {
+            "room" => self.lend_ledger(fields)?,
+            "create" => numbers.push(self.create(fields)?)?,
+            "spoil-head" => self.spoil_head(fields)?,
+            "spoil-row" => self.spoil_row(fields)?,
+            "spoil-posting" => self.spoil_posting(fields)?,
+            "open" => numbers.push(self.open(fields)?)?,
+            "annuls" => numbers.push(u32::from(self.annuls(fields)))?,
+            "charge" => numbers.extend_from_slice(&self.charge(fields)?)?,
+            "altered" => numbers.push(self.ledger.altered())?,
+            "altered-postings" => numbers.push(self.postings.altered())?,
+            _ => numbers.extend_from_slice(self.words_named(verb, fields)?)?,
+        }
+        Ok(numbers)
+    }
+
+    // A length for the ledger.
+    fn lend_ledger(&mut self, fields: &[u32]) -> Result<(), Unfit> {
+        let [count] = fields else {
+            return Err(Unfit::Unreadable);
+        };
+        self.ledger.lend(*count).ok_or(Unfit::LongLedger)?;
+        Ok(())
+    }
+
+    // A length for the postings, and what each of them becomes.
+    fn lend_postings(&mut self, fields: &[u32], expected: &[u32]) -> Result<(), Unfit> {
+        let ([count, megawatts], []) = (fields, expected) else {
+            return Err(Unfit::Unreadable);
+        };
+        let postings = self.postings.lend(*count).ok_or(Unfit::LongPostings)?;
+        postings.fill(*megawatts);
+        Ok(())
+    }
+
+    fn keep_copies(&mut self) {
+        self.ledger.keep_copy();
+        self.postings.keep_copy();
+    }
+
+    // All words are as their copies, but for those that may have been altered.
+    fn check_copies(&self, may_alter: MayAlter) -> Result<(), Unfit> {
+        let is_kept = match may_alter {
+            MayAlter::Nothing => self.ledger.is_unaltered() && self.postings.is_unaltered(),
+            MayAlter::Ledger => self.postings.is_unaltered(),
+            MayAlter::Postings => self.ledger.is_unaltered(),
+        };
+        if is_kept { Ok(()) } else { Err(Unfit::Altered) }
+    }
+
+    // A refusal must alter nothing. The postings are no part of it.
+    fn create(&mut self, fields: &[u32]) -> Result<u32, Unfit> {
+        let &[rows, hours, provider, window, base] = fields else {
+            return Err(Unfit::Unreadable);
+        };
+        self.ledger.keep_copy();
+        let ledger = self.ledger.words_mut();
+        let new = Creation {
+            rows,
+            hours,
+            provider,
+            window,
+            base,
+        };
+        let created = layout::create::create(ledger, new);
+        if created.is_err() && !self.ledger.is_unaltered() {
+            return Err(Unfit::Altered);
+        }
+        Ok(number_of(created))
+    }
+
+    fn answer_action(&mut self, action: Action, profile: &[u32]) -> Answer {
+        let ledger = self.ledger.words_mut();
+        let postings = self.postings.words_mut();
+        ledger::act(ledger, postings, profile, action)
+    }
+
+    // A refusal must alter nothing, a posting no word of the ledger, and any other action no posting.
+    fn act(&mut self, action: Action, profile: &[u32]) -> Result<Answer, Unfit> {
+        self.keep_copies();
+        let answer = self.answer_action(action, profile);
+        self.check_copies(match (answer.number, Kind::try_from(action.kind)) {
+            (0, Ok(Kind::Post)) => MayAlter::Postings,
+            (0, _) => MayAlter::Ledger,
+            _ => MayAlter::Nothing,
+        })?;
+        Ok(answer)
+    }
+
+    fn answer_contest(&mut self, terms: Contest, moves: &[u32], replies: &[u32]) -> Answer {
+        let ledger = self.ledger.words_mut();
+        contest::run_contest(ledger, self.postings.words(), terms, moves, replies)
+    }
+
+    // Only a row lost may alter the ledger, and no contest a posting.
+    fn contest(&mut self, fields: &[u32], replies: &[u32]) -> Result<Answer, Unfit> {
+        let &[actor, reference, challenger, holder, ref moves @ ..] = fields else {
+            return Err(Unfit::Unreadable);
+        };
+        let terms = Contest {
+            actor,
+            reference,
+            challenger,
+            holder,
+        };
+        self.keep_copies();
+        let answer = self.answer_contest(terms, moves, replies);
+        self.check_copies(match answer.after {
+            DISPLACED => MayAlter::Ledger,
+            _ => MayAlter::Nothing,
+        })?;
+        Ok(answer)
+    }
+
+    // The number that opening gives.
+    fn open(&self, fields: &[u32]) -> Result<u32, Unfit> {
+        if !fields.is_empty() {
+            return Err(Unfit::Unreadable);
+        }
+        Ok(number_of(opening::check_open(self.ledger.words())))
+    }
+
+    // Whether the annulments of the references, one after another, are all accepted.
+    fn annuls(&self, references: &[u32]) -> bool {
+        unwinding::annuls_in_order(self.ledger.words(), self.postings.words(), references)
+    }
+
+    // The number of the charge of a row, its millions of cents and the cents beyond them.
+    fn charge(&self, fields: &[u32]) -> Result<[u32; 3], Unfit> {
+        let [reference] = fields else {
+            return Err(Unfit::Unreadable);
+        };
+        let charged = readout::charge(self.ledger.words(), *reference);
+        let cents = charged.unwrap_or(0);
+        let millions = cents / MILLION % (1 << 32);
+        Ok([
+            number_of(charged),
+            millions as u32,
+            (cents % MILLION) as u32,
+        ])
+    }
+
+    // The profile in force of a row.
+    fn profile_in_force(&self, reference: u32) -> &[u32] {
+        readout::profile_in_force(self.ledger.words(), reference)
+    }
+
+    // The words of the ledger, or the postings, that a line names, where they are not more than a line may have.
+    fn words_named(&self, verb: &str, fields: &[u32]) -> Result<&[u32], Unfit> {
+        let ledger = self.ledger.words();
+        let words = match (verb, fields) {
+            ("profile", [reference]) => Some(self.profile_in_force(*reference)),
+            ("posted", [path]) => Layout::of(ledger).postings_of(self.postings.words(), *path),
+            _ => look::words_named(ledger, verb, fields),
+        };
+        words
+            .filter(|words| words.len() <= MOST_NUMBERS)
+            .ok_or(Unfit::Unreadable)
+    }
+
+    // place in the head, word
+    fn spoil_head(&mut self, fields: &[u32]) -> Result<(), Unfit> {
+        let &[place, word] = fields else {
+            return Err(Unfit::Unreadable);
+        };
+        spoil(self.ledger.words_mut().get_mut(place as usize), word)
+    }
+
+    // reference, place in its row, word
+    fn spoil_row(&mut self, fields: &[u32]) -> Result<(), Unfit> {
+        let &[reference, place, word] = fields else {
+            return Err(Unfit::Unreadable);
+        };
+        let ledger = self.ledger.words_mut();
+        spoil(look::word_of_row_mut(ledger, reference, place), word)
+    }
+
+    // path, hour, word
+    fn spoil_posting(&mut self, fields: &[u32]) -> Result<(), Unfit> {
+        let &[path, hour, word] = fields else {
+            return Err(Unfit::Unreadable);
+        };
+        let layout = Layout::of(self.ledger.words());
+        let postings = self.postings.words_mut();
+        spoil(layout.posting_mut(postings, path, hour), word)
     }
 }
 
-pub fn perform(
-    verb: &[u8],
-    fields: Numbers,
-    profile: Numbers,
-    l: &mut [u32],
-    before: &mut [u32],
-    postings: &mut [u32],
-    posted_before: &mut [u32],
-    got: &mut [u32; MOST_NUMBERS],
-) -> Ran {
-    let f = fields.list;
-    let p = profile.list;
-    let fields_count = fields.count;
-    let profile_count = profile.count;
-    perform_listed(
-        verb,
-        listed(&f, fields_count),
-        listed(&p, profile_count),
-        l,
-        before,
-        postings,
-        posted_before,
-        got,
-    )
+// A word overwritten, where there is one.
+fn spoil(at: Option<&mut u32>, word: u32) -> Result<(), Unfit> {
+    *at.ok_or(Unfit::Unreadable)? = word;
+    Ok(())
 }

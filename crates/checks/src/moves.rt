@@ -10,8 +10,11 @@ use layout::numbers::{
     CR_COUNTEROFFER, DECLINED, DISPLACED, FLAGS, INVALID, MOST_STATUS, PRECONFIRMED, QUEUED, REBID,
     RECEIVED, REFUSED, RELINQUISH, REQTYPE, STATUS, STUDY, SUPERSEDED, WITHDRAWN,
 };
+use layout::rows::{has_flag, word_at};
+use layout::size::Size;
 
-// Sets of statuses, bit s for status s: 1, 3, 4; 1, 3, 4, 8; 6, 7; 10, 11; the open ones.
+// Sets of statuses, bit s for status s: 1, 3, 4; 1, 3, 4, 8; 6, 7; 10, 11; the open ones. As words they are joined by
+// `|` and one test serves all, where patterns would list the same statuses again.
 const EARLY: u32 = 1 << QUEUED | 1 << RECEIVED | 1 << STUDY;
 
 const ASKED: u32 = EARLY | 1 << REBID;
@@ -74,27 +77,27 @@ pub fn customer_may(new: u32, status: u32, preconfirmed: bool, countered: bool) 
 
 // The seller, the customer of row n may move it to a new status.
 
-pub fn seller_may_row(l: &[u32], rows: usize, hours: usize, n: usize, new: u32) -> bool
-    requires sized { Sized l.now rows hours }
-    requires n_lt_rows { n < rows }
-    ensures { result ≡ seller_may (row hours l.now n) new }
+pub fn seller_may_row(l: &[u32], size: Size, n: usize, new: u32) -> bool
+    requires sized { Sized l.now size.rows size.hours }
+    requires n_lt_rows { n < size.rows }
+    ensures { result ≡ seller_may (row size.hours l.now n) new }
 {
-    let status = layout::rows::word_at(l, rows, hours, n, STATUS);
-    let flags = layout::rows::word_at(l, rows, hours, n, FLAGS);
-    let preconfirmed = layout::rows::has_flag(flags, PRECONFIRMED);
-    let coordinated = layout::rows::has_flag(flags, COORDINATED);
-    let relinquish = layout::rows::word_at(l, rows, hours, n, REQTYPE) == RELINQUISH;
+    let status = word_at(l, size, n, STATUS);
+    let flags = word_at(l, size, n, FLAGS);
+    let preconfirmed = has_flag(flags, PRECONFIRMED);
+    let coordinated = has_flag(flags, COORDINATED);
+    let relinquish = word_at(l, size, n, REQTYPE) == RELINQUISH;
     seller_may(new, status, preconfirmed, coordinated, relinquish)
 }
 
-pub fn customer_may_row(l: &[u32], rows: usize, hours: usize, n: usize, new: u32) -> bool
-    requires sized { Sized l.now rows hours }
-    requires n_lt_rows { n < rows }
-    ensures { result ≡ customer_may (row hours l.now n) new }
+pub fn customer_may_row(l: &[u32], size: Size, n: usize, new: u32) -> bool
+    requires sized { Sized l.now size.rows size.hours }
+    requires n_lt_rows { n < size.rows }
+    ensures { result ≡ customer_may (row size.hours l.now n) new }
 {
-    let status = layout::rows::word_at(l, rows, hours, n, STATUS);
-    let flags = layout::rows::word_at(l, rows, hours, n, FLAGS);
-    let preconfirmed = layout::rows::has_flag(flags, PRECONFIRMED);
-    let countered = layout::rows::has_flag(flags, COUNTERED);
+    let status = word_at(l, size, n, STATUS);
+    let flags = word_at(l, size, n, FLAGS);
+    let preconfirmed = has_flag(flags, PRECONFIRMED);
+    let countered = has_flag(flags, COUNTERED);
     customer_may(new, status, preconfirmed, countered)
 }

@@ -1,6 +1,6 @@
 -- The checks of confirming where they pass, and what its writes leave of a row.
-use mathlib.Core.Path.{◌≡◌, refl, ap}
-use mathlib.Core.Bool.{Bool, true, false, not}
+use mathlib.Core.Path.{◌≡◌, ap, ◌∙◌}
+use mathlib.Core.Bool.{true, false, not}
 use mathlib.Core.List.{List}
 use Prim.Native.Nat.{ℕ, ◌+◌, ◌<◌, ◌≤◌}
 use native.Mathlib.Omega.{arith}
@@ -8,16 +8,14 @@ use lib.ListN.{length, get_or}
 use borrow.Author.Tests.{not-false, eq-eqb}
 use Rattle.words.specs.Lists.{covered, noughts}
 use Rattle.words.proofs.Laws.{noughts_length, splice_before}
-use Rattle.rules.specs.Pick.{◌gives◌else◌}
 use Rattle.rules.specs.Numbers.{row_words, profiles, available_part, RELINQUISH}
-use Rattle.rules.specs.Layout.{row_size, row, on_row, reqtype, start, related_row, hour_at, hours_of, set_hours, clear_hours}
-use Rattle.rules.specs.Megawatts.{take_from, give_back}
-use Rattle.rules.specs.Confirming.{emptied, confirm_relinquish, unapproved, unconfirmed, short, partial, drawn_from, confirm_number}
+use Rattle.rules.specs.Layout.{row_size, row, reqtype, start, related_row, hour_at, hours_of, set_hours, clear_hours}
+use Rattle.rules.specs.Confirming.{short, drawn_from}
 use Rattle.rules.proofs.Types.{derived_type}
 use Rattle.rules.proofs.Seen.{Room, hour_in}
 use Rattle.rules.proofs.Over.{full, over_confirming}
 use Rattle.megawatts.specs.Placed.{Placed}
-use Rattle.megawatts.proofs.Laws.{and_rest}
+use Rattle.megawatts.proofs.Laws.{and_rest, own_words, type_three, span_fits, after_take, related_before, related_placed, related_in, redirect_three}
 
 -- ---- writes of hours leave the sixteen words
 module _ {H s : ℕ} {v r : List ℕ} (m : Room H s v r) (q : ℕ) (lt : q < profiles) where
@@ -39,24 +37,19 @@ module _ {l : List ℕ} {R H n : ℕ} (p : Placed l R H n) (mw : List ℕ) where
   unfolding over_confirming
   not_over t e = and_rest _ _ (eq-eqb _ _ t) e
 
--- no check of confirming applied
-passes_by : (t : Bool) (n m : ℕ) → (n ≡ 0 → ⊥) → (t gives n else m) ≡ 0 → (t ≡ false) × (m ≡ 0)
-passes_by true n m ne e = absurd (ne e)
-passes_by false n m ne e = (refl, e)
+-- a relinquish record: the redirect that it is related to is a row, and the row above that comes before it
+module _ {l : List ℕ} {R H n a : ℕ} (p : Placed l R H n) (t : reqtype (row H l n) ≡ RELINQUISH) (ea : a ≡ related_row H l n) where
+  pub redirect_in : a < R
+  redirect_in = omega (arith, ea, related_in p (omega (arith, t)))
 
-pub passed : (H : ℕ) (l : List ℕ) (n : ℕ) (mw : List ℕ) (isApproved : Bool) → confirm_number H l n mw isApproved ≡ 0 → (unconfirmed H l n ≡ false) × (short H l n mw ≡ false) × (partial H l n mw ≡ false)
-unfolding confirm_number
-passed H l n mw isApproved e0 =
-    let a = passes_by (unapproved H l n isApproved) 13 _ (λ x. omega (arith, x)) e0 in
-    let b = passes_by (unconfirmed H l n) 9 _ (λ x. omega (arith, x)) a.1 in
-    let d = passes_by (short H l n mw) 14 _ (λ x. omega (arith, x)) b.1 in
-    let u = passes_by (partial H l n mw) 14 _ (λ x. omega (arith, x)) d.1 in
-    (b.0, d.0, u.0)
+  pub above_low : {b : ℕ} → b ≡ related_row H l a → b < a
+  above_low {b} eb =
+      omega (arith, ea, eb ∙ ap (λ (x : ℕ). related_row H l x) ea, related_before (related_placed p (omega (arith, t))) (redirect_three p t))
 
--- the three writes of a relinquish record, by the numbers and ledgers that a function has at hand
-pub relinquish_chain : (H : ℕ) (l : List ℕ) (n : ℕ) (mw : List ℕ) {s a b : ℕ} {l1 l2 l3 : List ℕ}
-    → s ≡ start (row H l n) → a ≡ related_row H l n → b ≡ related_row H l a
-    → l1 ≡ on_row H a (take_from H s mw) l → l2 ≡ on_row H b (give_back H s mw) l1 → l3 ≡ on_row H n (emptied H s mw) l2
-    → l3 ≡ confirm_relinquish H n mw l
-unfolding confirm_relinquish
-relinquish_chain H l n mw es ea eb e1 e2 e3 = cc (es, ea, eb, e1, e2, e3)
+-- for what is read of the rows that a row in use is related to
+pub ruleset related = (type_three, related_in, related_placed, redirect_three, span_fits)
+
+-- for the writes of types 3 to 7, and of type 8
+pub ruleset derived = (related, not_short, related_before, after_take, own_words)
+
+pub ruleset relinquished = (redirect_in, above_low, not_short, span_fits)

@@ -1,10 +1,12 @@
-// Confirming row n of a ledger with the megawatts mw granted: its number, whether it would carry a word over 100,000, and what it writes.
+// Confirming row n of a ledger with the megawatts mw granted: its checks, whether it would carry a word over 100,000,
+// and what it writes.
 ghost use Rattle.std.specs.Prelude.{◌≡◌, true, false, ◌+◌, ◌<◌, ◌≤◌, length};
 ghost use Rattle.rules.specs.Numbers.{most_hours, most_flags, CONFIRMED as confirmed_status, RELINQUISH as relinquish};
 ghost use Rattle.rules.specs.Layout.{Sized, row, on_row, reqtype, start, flags, set_status, row_size, span_hours};
 ghost use Rattle.rules.specs.Sound.{original};
 ghost use Rattle.rules.specs.Megawatts.{grant, in_force};
 ghost use Rattle.rules.specs.Confirming.{held, emptied, confirm_original, confirm_derived, confirm_relinquish, confirm as confirmed, unapproved, unconfirmed, short, same_span, partial, confirm_number};
+ghost use Rattle.rules.specs.Refusals.{number_of};
 ghost use Rattle.rules.proofs.Seen.{Room};
 ghost use Rattle.rules.proofs.SoundFacts.{SoundWords};
 ghost use Rattle.rules.proofs.Over.{over_confirming};
@@ -12,335 +14,313 @@ ghost use Rattle.megawatts.specs.Placed.{Placed};
 
 use layout::class::is_original;
 use layout::numbers::{
-    AVAILABLE_PART, CONFIRMED, FLAGS, FULL_TRANSFER, GRANTED_GIVEN, GRANTED_PART, MOST_HOURS,
-    PROFILES, RELINQUISH, REQTYPE, REQUESTED_PART, ROW_WORDS, SHORT, START, STATUS, STOP,
-    UNAPPROVED, WRONG_RELATED,
+    CONFIRMED, FLAGS, FULL_TRANSFER, GRANTED_GIVEN, MOST_HOURS, RELINQUISH, REQTYPE, START, STATUS,
+    STOP,
 };
-use layout::rows::{clear_hours, flag_raised, has_flag, hours_at, row_at, set_hours, word_at};
+use layout::profile::Profile;
+use layout::rows::{clear_hours, flag_raised, has_flag, set_hours, word_at};
+use layout::size::Size;
 use megawatts::giving::{covers_at, equals_at, full_at, give_back, take_from};
 use megawatts::reading::{
-    copy_in_force, count_of, is_confirmed, is_transfer, profile_in_force, related_of, span_at,
-    start_of,
+    copy_in_force, count_of, in_force, is_confirmed, is_transfer, related_of, start_of,
 };
+use rules::Refusal;
 
 // What is written in the row itself, which is lent.
 
-pub fn grant_row(r: &mut [u32], hours: usize, start: usize, mw: &[u32])
-    requires room { Room hours start mw.now r.old }
-    requires hours_le_most_hours { (hours ≤ most_hours) × (flags r.old ≤ most_flags) }
-    ensures { r.new ≡ grant hours start mw.now r.old }
+#[tactic(auto, using(crate::proofs::Laws::set_word), unfolding(rules::specs::Megawatts::grant))]
+pub fn grant_row(r: &mut [u32], size: Size, start: usize, mw: &[u32])
+    requires room { Room size.hours start mw.now r.old }
+    requires flags_bound { flags r.old ≤ most_flags }
+    ensures { r.new ≡ grant size.hours start mw.now r.old }
 {
-    set_hours(r, hours, GRANTED_PART, start, mw);
+    set_hours(r, size, Profile::Granted, start, mw);
     r[FLAGS] = flag_raised(r[FLAGS], GRANTED_GIVEN);
 }
 
 // Granted becomes the profile in force: once given it stands, before that requested is copied.
-pub fn grant_own_row(r: &mut [u32], hours: usize)
-    requires r_len { (length r.old ≡ row_size hours) × (hours ≤ most_hours) }
-    requires sound_words { SoundWords hours r.old }
-    ensures { r.new ≡ grant hours (start r.old) (in_force hours r.old) r.old }
+pub fn grant_own_row(r: &mut [u32], size: Size)
+    requires r_len { length r.old ≡ row_size size.hours }
+    requires sound_words { SoundWords size.hours r.old }
+    ensures { r.new ≡ grant size.hours (start r.old) (in_force size.hours r.old) r.old }
 {
     if has_flag(r[FLAGS], GRANTED_GIVEN) {
         return;
     }
     let start = r[START] as usize;
     let count = r[STOP] as usize - start;
-    let to = hours_at(hours, GRANTED_PART, start, count);
-    let from = hours_at(hours, REQUESTED_PART, start, count);
+    let to = Profile::Granted.hours_at(size, start, count);
+    let from = Profile::Requested.hours_at(size, start, count);
     words::copy_part(r, to, from, count);
     r[FLAGS] = flag_raised(r[FLAGS], GRANTED_GIVEN);
 }
 
-fn settle_row(r: &mut [u32], hours: usize, start: usize, mw: &[u32])
-    requires room { Room hours start mw.now r.old }
-    requires hours_le_most_hours { (hours ≤ most_hours) × (flags r.old ≤ most_flags) }
-    ensures { r.new ≡ set_status confirmed_status (grant hours start mw.now r.old) }
+fn settle_row(r: &mut [u32], size: Size, start: usize, mw: &[u32])
+    requires room { Room size.hours start mw.now r.old }
+    requires flags_bound { flags r.old ≤ most_flags }
+    ensures { r.new ≡ set_status confirmed_status (grant size.hours start mw.now r.old) }
 {
-    grant_row(r, hours, start, mw);
+    grant_row(r, size, start, mw);
     r[STATUS] = CONFIRMED;
 }
 
-// A confirmation writes only the span's hours of a row's profile: set_hours lends on the span's part of available as a `&mut` part from the middle of the row.
-fn hold_row(r: &mut [u32], hours: usize, start: usize, mw: &[u32])
-    requires room { Room hours start mw.now r.old }
-    requires hours_le_most_hours { (hours ≤ most_hours) × (flags r.old ≤ most_flags) }
-    ensures { r.new ≡ held hours start mw.now r.old }
+// A confirmation writes only the span's hours of a row's profile, a part lent on: available becomes mw, or 0.
+// Two functions here and two of the ledger: a closure in their place would carry the clauses of a row itself.
+#[tactic(auto, using(crate::proofs::Laws::set_word), unfolding(rules::specs::Confirming::held))]
+fn hold_row(r: &mut [u32], size: Size, start: usize, mw: &[u32])
+    requires room { Room size.hours start mw.now r.old }
+    requires flags_bound { flags r.old ≤ most_flags }
+    ensures { r.new ≡ held size.hours start mw.now r.old }
 {
-    set_hours(r, hours, AVAILABLE_PART, start, mw);
-    settle_row(r, hours, start, mw);
+    set_hours(r, size, Profile::Available, start, mw);
+    settle_row(r, size, start, mw);
 }
 
-fn empty_row(r: &mut [u32], hours: usize, start: usize, mw: &[u32])
-    requires room { Room hours start mw.now r.old }
-    requires hours_le_most_hours { (hours ≤ most_hours) × (flags r.old ≤ most_flags) }
-    ensures { r.new ≡ emptied hours start mw.now r.old }
+#[tactic(auto, using(crate::proofs::Laws::clear_word), unfolding(rules::specs::Confirming::emptied))]
+fn empty_row(r: &mut [u32], size: Size, start: usize, mw: &[u32])
+    requires room { Room size.hours start mw.now r.old }
+    requires flags_bound { flags r.old ≤ most_flags }
+    ensures { r.new ≡ emptied size.hours start mw.now r.old }
 {
-    clear_hours(r, hours, AVAILABLE_PART, start, mw.len());
-    settle_row(r, hours, start, mw);
+    clear_hours(r, size, Profile::Available, start, mw.len());
+    settle_row(r, size, start, mw);
 }
 
 // Row n of the ledger is CONFIRMED: with mw available, or with nothing.
 
-fn hold(l: &mut [u32], rows: usize, hours: usize, n: usize, start: usize, mw: &[u32])
-    requires sized { Sized l.old rows hours }
-    requires n_lt_rows { (n < rows) × (start + length mw.now ≤ hours) }
-    requires n_bound { flags (row hours l.old n) ≤ most_flags }
-    ensures { l.new ≡ on_row hours n (held hours start mw.now) l.old }
+// In place: a function that returns a `&mut` part of a slice gets no proof.
+fn hold(l: &mut [u32], size: Size, n: usize, start: usize, mw: &[u32])
+    requires sized { Sized l.old size.rows size.hours }
+    requires n_lt_rows { (n < size.rows) × (start + length mw.now ≤ size.hours) }
+    requires n_bound { flags (row size.hours l.old n) ≤ most_flags }
+    ensures { l.new ≡ on_row size.hours n (held size.hours start mw.now) l.old }
 {
-    let at = row_at(rows, hours, n);
-    let size = ROW_WORDS + PROFILES * hours;
-    hold_row(&mut l[at..at + size], hours, start, mw);
+    let at = size.row_at(n);
+    hold_row(&mut l[at..at + size.row_words()], size, start, mw);
 }
 
-fn empty(l: &mut [u32], rows: usize, hours: usize, n: usize, start: usize, mw: &[u32])
-    requires sized { Sized l.old rows hours }
-    requires n_lt_rows { (n < rows) × (start + length mw.now ≤ hours) }
-    requires n_bound { flags (row hours l.old n) ≤ most_flags }
-    ensures { l.new ≡ on_row hours n (emptied hours start mw.now) l.old }
+// In place: a function that returns a `&mut` part of a slice gets no proof.
+fn empty(l: &mut [u32], size: Size, n: usize, start: usize, mw: &[u32])
+    requires sized { Sized l.old size.rows size.hours }
+    requires n_lt_rows { (n < size.rows) × (start + length mw.now ≤ size.hours) }
+    requires n_bound { flags (row size.hours l.old n) ≤ most_flags }
+    ensures { l.new ≡ on_row size.hours n (emptied size.hours start mw.now) l.old }
 {
-    let at = row_at(rows, hours, n);
-    let size = ROW_WORDS + PROFILES * hours;
-    empty_row(&mut l[at..at + size], hours, start, mw);
+    let at = size.row_at(n);
+    empty_row(&mut l[at..at + size.row_words()], size, start, mw);
 }
 
 // Types 1 and 2; types 3 to 7; type 8.
 
-fn confirm_original(l: &mut [u32], rows: usize, hours: usize, n: usize, mw: &[u32])
-    requires placed { Placed l.old rows hours n }
-    requires mw_len { length mw.now ≡ span_hours (row hours l.old n) }
-    ensures { l.new ≡ confirm_original hours n mw.now l.old }
+#[tactic(auto, unfolding(rules::specs::Confirming::confirm_original))]
+fn confirm_original(l: &mut [u32], size: Size, n: usize, mw: &[u32])
+    requires placed { Placed l.old size.rows size.hours n }
+    requires mw_len { length mw.now ≡ span_hours (row size.hours l.old n) }
+    ensures { l.new ≡ confirm_original size.hours n mw.now l.old }
 {
-    let start = start_of(&l[..], rows, hours, n);
-    hold(l, rows, hours, n, start, mw);
+    let start = start_of(&l[..], size, n);
+    hold(l, size, n, start, mw);
 }
 
-fn confirm_derived(l: &mut [u32], rows: usize, hours: usize, n: usize, mw: &[u32])
-    requires placed { Placed l.old rows hours n }
-    requires mw_len { length mw.now ≡ span_hours (row hours l.old n) }
-    requires mw_value { short hours l.old n mw.now ≡ false }
-    requires n_value { original (reqtype (row hours l.old n)) ≡ false }
-    ensures { l.new ≡ confirm_derived hours n mw.now l.old }
+#[tactic(auto, using(crate::proofs::Laws::derived), unfolding(rules::specs::Confirming::confirm_derived))]
+fn confirm_derived(l: &mut [u32], size: Size, n: usize, mw: &[u32])
+    requires placed { Placed l.old size.rows size.hours n }
+    requires mw_len { length mw.now ≡ span_hours (row size.hours l.old n) }
+    requires mw_value { short size.hours l.old n mw.now ≡ false }
+    requires n_value { original (reqtype (row size.hours l.old n)) ≡ false }
+    ensures { l.new ≡ confirm_derived size.hours n mw.now l.old }
 {
-    let start = start_of(&l[..], rows, hours, n);
-    let above = related_of(&l[..], rows, hours, n);
-    take_from(l, rows, hours, above, start, mw);
-    hold(l, rows, hours, n, start, mw);
+    let start = start_of(&l[..], size, n);
+    let above = related_of(&l[..], size, n);
+    take_from(l, size, above, start, mw);
+    hold(l, size, n, start, mw);
 }
 
-fn confirm_relinquish(l: &mut [u32], rows: usize, hours: usize, n: usize, mw: &[u32])
-    requires placed { Placed l.old rows hours n }
-    requires mw_len { length mw.now ≡ span_hours (row hours l.old n) }
-    requires mw_value { short hours l.old n mw.now ≡ false }
-    requires mw_value_2 { over_confirming hours l.old n mw.now ≡ false }
-    requires n_value { reqtype (row hours l.old n) ≡ relinquish }
-    ensures { l.new ≡ confirm_relinquish hours n mw.now l.old }
+#[tactic(auto, using(crate::proofs::Laws::relinquished), unfolding(rules::specs::Confirming::confirm_relinquish))]
+fn confirm_relinquish(l: &mut [u32], size: Size, n: usize, mw: &[u32])
+    requires placed { Placed l.old size.rows size.hours n }
+    requires mw_len { length mw.now ≡ span_hours (row size.hours l.old n) }
+    requires mw_value { short size.hours l.old n mw.now ≡ false }
+    requires mw_value_2 { over_confirming size.hours l.old n mw.now ≡ false }
+    requires n_value { reqtype (row size.hours l.old n) ≡ relinquish }
+    ensures { l.new ≡ confirm_relinquish size.hours n mw.now l.old }
 {
-    let start = start_of(&l[..], rows, hours, n);
-    let redirect = related_of(&l[..], rows, hours, n);
-    let above = related_of(&l[..], rows, hours, redirect);
-    take_from(l, rows, hours, redirect, start, mw);
-    give_back(l, rows, hours, above, start, mw);
-    empty(l, rows, hours, n, start, mw);
+    let start = start_of(&l[..], size, n);
+    let redirect = related_of(&l[..], size, n);
+    let above = related_of(&l[..], size, redirect);
+    take_from(l, size, redirect, start, mw);
+    give_back(l, size, above, start, mw);
+    empty(l, size, n, start, mw);
 }
 
-fn confirm(l: &mut [u32], rows: usize, hours: usize, n: usize, mw: &[u32])
-    requires placed { Placed l.old rows hours n }
-    requires mw_len { length mw.now ≡ span_hours (row hours l.old n) }
-    requires mw_value { short hours l.old n mw.now ≡ false }
-    requires mw_value_2 { over_confirming hours l.old n mw.now ≡ false }
-    ensures { l.new ≡ confirmed hours n mw.now l.old }
+#[tactic(auto, unfolding(rules::specs::Confirming::confirm))]
+fn confirm(l: &mut [u32], size: Size, n: usize, mw: &[u32])
+    requires placed { Placed l.old size.rows size.hours n }
+    requires mw_len { length mw.now ≡ span_hours (row size.hours l.old n) }
+    requires mw_value { short size.hours l.old n mw.now ≡ false }
+    requires mw_value_2 { over_confirming size.hours l.old n mw.now ≡ false }
+    ensures { l.new ≡ confirmed size.hours n mw.now l.old }
 {
-    let reqtype = word_at(&l[..], rows, hours, n, REQTYPE);
+    let reqtype = word_at(&l[..], size, n, REQTYPE);
     if is_original(reqtype) {
-        confirm_original(l, rows, hours, n, mw);
-        return;
+        confirm_original(l, size, n, mw);
+    } else if reqtype == RELINQUISH {
+        confirm_relinquish(l, size, n, mw);
+    } else {
+        confirm_derived(l, size, n, mw);
     }
-    if reqtype == RELINQUISH {
-        confirm_relinquish(l, rows, hours, n, mw);
-        return;
-    }
-    confirm_derived(l, rows, hours, n, mw);
 }
 
 // The checks of confirming.
 
-fn is_unapproved(l: &[u32], rows: usize, hours: usize, n: usize, approved: bool) -> bool
-    requires { Placed l.now rows hours n }
-    ensures { result ≡ unapproved hours l.now n approved }
+#[tactic(auto, unfolding(rules::specs::Confirming::unapproved))]
+fn is_unapproved(l: &[u32], size: Size, n: usize, approved: bool) -> bool
+    requires { Placed l.now size.rows size.hours n }
+    ensures { result ≡ unapproved size.hours l.now n approved }
 {
-    let reqtype = word_at(l, rows, hours, n, REQTYPE);
-    if is_transfer(reqtype) {
-        return !approved;
-    }
-    false
+    is_transfer(word_at(l, size, n, REQTYPE)) && !approved
 }
 
-fn is_unconfirmed(l: &[u32], rows: usize, hours: usize, n: usize) -> bool
-    requires { Placed l.now rows hours n }
-    ensures { result ≡ unconfirmed hours l.now n }
+#[tactic(auto, using(crate::proofs::Laws::related), unfolding(rules::specs::Confirming::unconfirmed))]
+fn is_unconfirmed(l: &[u32], size: Size, n: usize) -> bool
+    requires { Placed l.now size.rows size.hours n }
+    ensures { result ≡ unconfirmed size.hours l.now n }
 {
-    let reqtype = word_at(l, rows, hours, n, REQTYPE);
-    if is_original(reqtype) {
+    if is_original(word_at(l, size, n, REQTYPE)) {
         return false;
     }
-    let above = related_of(l, rows, hours, n);
-    !is_confirmed(l, rows, hours, above)
+    let above = related_of(l, size, n);
+    !is_confirmed(l, size, above)
 }
 
-fn is_short(l: &[u32], rows: usize, hours: usize, n: usize, mw: &[u32]) -> bool
-    requires placed { Placed l.now rows hours n }
-    requires mw_len { length mw.now ≡ span_hours (row hours l.now n) }
-    ensures { result ≡ short hours l.now n mw.now }
+#[tactic(auto, using(crate::proofs::Laws::related), unfolding(rules::specs::Confirming::short, rules::specs::Confirming::drawn_from))]
+fn is_short(l: &[u32], size: Size, n: usize, mw: &[u32]) -> bool
+    requires placed { Placed l.now size.rows size.hours n }
+    requires mw_len { length mw.now ≡ span_hours (row size.hours l.now n) }
+    ensures { result ≡ short size.hours l.now n mw.now }
 {
-    let reqtype = word_at(l, rows, hours, n, REQTYPE);
-    if is_original(reqtype) {
+    if is_original(word_at(l, size, n, REQTYPE)) {
         return false;
     }
-    let start = start_of(l, rows, hours, n);
-    let above = related_of(l, rows, hours, n);
-    !covers_at(l, rows, hours, above, start, mw)
+    let start = start_of(l, size, n);
+    let above = related_of(l, size, n);
+    !covers_at(l, size, above, start, mw)
 }
 
-fn same_span(l: &[u32], rows: usize, hours: usize, n: usize, m: usize) -> bool
-    requires sized { Sized l.now rows hours }
-    requires n_lt_rows { (n < rows) × (m < rows) }
-    ensures { result ≡ same_span (row hours l.now n) (row hours l.now m) }
+#[tactic(auto, unfolding(rules::specs::Confirming::same_span))]
+fn same_span(l: &[u32], size: Size, n: usize, m: usize) -> bool
+    requires sized { Sized l.now size.rows size.hours }
+    requires n_lt_rows { (n < size.rows) × (m < size.rows) }
+    ensures { result ≡ same_span (row size.hours l.now n) (row size.hours l.now m) }
 {
-    if word_at(l, rows, hours, n, START) != word_at(l, rows, hours, m, START) {
+    word_at(l, size, n, START) == word_at(l, size, m, START)
+        && word_at(l, size, n, STOP) == word_at(l, size, m, STOP)
+}
+
+#[tactic(auto, using(crate::proofs::Laws::related), unfolding(rules::specs::Confirming::partial, rules::specs::Confirming::drawn_from))]
+fn is_partial(l: &[u32], size: Size, n: usize, mw: &[u32]) -> bool
+    requires placed { Placed l.now size.rows size.hours n }
+    requires mw_len { length mw.now ≡ span_hours (row size.hours l.now n) }
+    ensures { result ≡ partial size.hours l.now n mw.now }
+{
+    if word_at(l, size, n, REQTYPE) != FULL_TRANSFER {
         return false;
     }
-    word_at(l, rows, hours, n, STOP) == word_at(l, rows, hours, m, STOP)
+    let start = start_of(l, size, n);
+    let above = related_of(l, size, n);
+    !same_span(l, size, n, above) || !equals_at(l, size, above, start, mw)
 }
 
-fn is_partial(l: &[u32], rows: usize, hours: usize, n: usize, mw: &[u32]) -> bool
-    requires placed { Placed l.now rows hours n }
-    requires mw_len { length mw.now ≡ span_hours (row hours l.now n) }
-    ensures { result ≡ partial hours l.now n mw.now }
-{
-    let reqtype = word_at(l, rows, hours, n, REQTYPE);
-    if reqtype != FULL_TRANSFER {
-        return false;
-    }
-    let start = start_of(l, rows, hours, n);
-    let above = related_of(l, rows, hours, n);
-    if !same_span(l, rows, hours, n, above) {
-        return true;
-    }
-    !equals_at(l, rows, hours, above, start, mw)
-}
-
-pub fn confirm_number(
+#[tactic(auto, using(rules::proofs::Picks::choice), unfolding(rules::specs::Confirming::confirm_number))]
+pub fn check_confirm(
     l: &[u32],
-    rows: usize,
-    hours: usize,
+    size: Size,
     n: usize,
     mw: &[u32],
     approved: bool,
-) -> u32
-    requires placed { Placed l.now rows hours n }
-    requires mw_len { length mw.now ≡ span_hours (row hours l.now n) }
-    ensures { result ≡ confirm_number hours l.now n mw.now approved }
+) -> Result<(), Refusal>
+    requires placed { Placed l.now size.rows size.hours n }
+    requires mw_len { length mw.now ≡ span_hours (row size.hours l.now n) }
+    ensures { number_of result ≡ confirm_number size.hours l.now n mw.now approved }
 {
-    if is_unapproved(l, rows, hours, n, approved) {
-        return UNAPPROVED;
+    if is_unapproved(l, size, n, approved) {
+        return Err(Refusal::Unapproved);
     }
-    if is_unconfirmed(l, rows, hours, n) {
-        return WRONG_RELATED;
+    if is_unconfirmed(l, size, n) {
+        return Err(Refusal::WrongRelated);
     }
-    if is_short(l, rows, hours, n, mw) {
-        return SHORT;
+    if is_short(l, size, n, mw) {
+        return Err(Refusal::Short);
     }
-    if is_partial(l, rows, hours, n, mw) {
-        return SHORT;
+    if is_partial(l, size, n, mw) {
+        return Err(Refusal::Short);
     }
-    0
+    Ok(())
 }
 
 // A relinquish record would give back more than the row has room for.
-pub fn over_confirming(l: &[u32], rows: usize, hours: usize, n: usize, mw: &[u32]) -> bool
-    requires placed { Placed l.now rows hours n }
-    requires mw_len { length mw.now ≡ span_hours (row hours l.now n) }
-    ensures { result ≡ over_confirming hours l.now n mw.now }
+#[tactic(auto, using(crate::proofs::Laws::related), unfolding(rules::proofs::Over::over_confirming))]
+pub fn over_confirming(l: &[u32], size: Size, n: usize, mw: &[u32]) -> bool
+    requires placed { Placed l.now size.rows size.hours n }
+    requires mw_len { length mw.now ≡ span_hours (row size.hours l.now n) }
+    ensures { result ≡ over_confirming size.hours l.now n mw.now }
 {
-    let reqtype = word_at(l, rows, hours, n, REQTYPE);
-    if reqtype != RELINQUISH {
+    if word_at(l, size, n, REQTYPE) != RELINQUISH {
         return false;
     }
-    let start = start_of(l, rows, hours, n);
-    let redirect = related_of(l, rows, hours, n);
-    let above = related_of(l, rows, hours, redirect);
-    full_at(l, rows, hours, above, start, mw)
+    let start = start_of(l, size, n);
+    let redirect = related_of(l, size, n);
+    let above = related_of(l, size, redirect);
+    full_at(l, size, above, start, mw)
 }
 
-// The same with the row's own profile in force, as every kind confirms.
+// The same with the row's own profile in force.
 
-pub fn confirm_own_number(l: &[u32], rows: usize, hours: usize, n: usize, approved: bool) -> u32
-    requires { Placed l.now rows hours n }
-    ensures { result ≡ confirm_number hours l.now n (in_force hours (row hours l.now n)) approved }
+#[tactic(auto, using(megawatts::proofs::Laws::force_length))]
+pub fn check_confirm_own(l: &[u32], size: Size, n: usize, approved: bool) -> Result<(), Refusal>
+    requires { Placed l.now size.rows size.hours n }
+    ensures { number_of result ≡ confirm_number size.hours l.now n (in_force size.hours (row size.hours l.now n)) approved }
 {
-    let p = profile_in_force(l, rows, hours, n);
-    let from = span_at(l, rows, hours, n, p);
-    let count = count_of(l, rows, hours, n);
-    confirm_number(l, rows, hours, n, &l[from..from + count], approved)
+    check_confirm(l, size, n, in_force(l, size, n), approved)
 }
 
-pub fn over_confirming_own(l: &[u32], rows: usize, hours: usize, n: usize) -> bool
-    requires { Placed l.now rows hours n }
-    ensures { result ≡ over_confirming hours l.now n (in_force hours (row hours l.now n)) }
+#[tactic(auto, using(megawatts::proofs::Laws::force_length))]
+pub fn over_confirming_own(l: &[u32], size: Size, n: usize) -> bool
+    requires { Placed l.now size.rows size.hours n }
+    ensures { result ≡ over_confirming size.hours l.now n (in_force size.hours (row size.hours l.now n)) }
 {
-    let p = profile_in_force(l, rows, hours, n);
-    let from = span_at(l, rows, hours, n, p);
-    let count = count_of(l, rows, hours, n);
-    over_confirming(l, rows, hours, n, &l[from..from + count])
+    over_confirming(l, size, n, in_force(l, size, n))
 }
 
-// The writing has a copy of the profile, since the ledger is written while it is read.
-fn confirm_copied(l: &mut [u32], rows: usize, hours: usize, n: usize, own: &mut [u32])
-    requires placed { Placed l.old rows hours n }
-    requires own_len { length own.old ≡ span_hours (row hours l.old n) }
-    requires n_value { short hours l.old n (in_force hours (row hours l.old n)) ≡ false }
-    requires n_value_2 { over_confirming hours l.old n (in_force hours (row hours l.old n)) ≡ false }
-    ensures { l.new ≡ confirmed hours n (in_force hours (row hours l.old n)) l.old }
-{
-    copy_in_force(own, &l[..], rows, hours, n);
-    confirm(l, rows, hours, n, &own[..]);
-}
-
-// A day's hours, with some to spare: the copy of a short span has a buffer that is soon cleared.
+// Room for a copy of a span's hours: a day's, with some to spare, which is soon cleared; the longest.
 const SHORT_SPAN: usize = 32;
 
-fn confirm_short(l: &mut [u32], rows: usize, hours: usize, n: usize, count: usize)
-    requires placed { Placed l.old rows hours n }
-    requires count_value { (count ≡ span_hours (row hours l.old n)) × (count ≤ 32) }
-    requires n_value { short hours l.old n (in_force hours (row hours l.old n)) ≡ false }
-    requires n_value_2 { over_confirming hours l.old n (in_force hours (row hours l.old n)) ≡ false }
-    ensures { l.new ≡ confirmed hours n (in_force hours (row hours l.old n)) l.old }
+const LONGEST_SPAN: usize = MOST_HOURS as usize;
+
+// The writing has a copy of the profile, since the ledger is written while it is read.
+fn confirm_copied<const N: usize>(l: &mut [u32], size: Size, n: usize, count: usize)
+    requires placed { Placed l.old size.rows size.hours n }
+    requires count_value { count ≡ span_hours (row size.hours l.old n) }
+    requires room { (count ≤ N) × (N ≤ most_hours) }
+    requires n_value { short size.hours l.old n (in_force size.hours (row size.hours l.old n)) ≡ false }
+    requires n_value_2 { over_confirming size.hours l.old n (in_force size.hours (row size.hours l.old n)) ≡ false }
+    ensures { l.new ≡ confirmed size.hours n (in_force size.hours (row size.hours l.old n)) l.old }
 {
-    let mut own = [0u32; SHORT_SPAN];
-    confirm_copied(l, rows, hours, n, &mut own[..count]);
+    let mut own = [0u32; N];
+    copy_in_force(&mut own[..count], &l[..], size, n);
+    confirm(l, size, n, &own[..count]);
 }
 
-fn confirm_long(l: &mut [u32], rows: usize, hours: usize, n: usize, count: usize)
-    requires placed { Placed l.old rows hours n }
-    requires count_value { (count ≡ span_hours (row hours l.old n)) × (count ≤ most_hours) }
-    requires n_value { short hours l.old n (in_force hours (row hours l.old n)) ≡ false }
-    requires n_value_2 { over_confirming hours l.old n (in_force hours (row hours l.old n)) ≡ false }
-    ensures { l.new ≡ confirmed hours n (in_force hours (row hours l.old n)) l.old }
+pub fn confirm_own(l: &mut [u32], size: Size, n: usize)
+    requires placed { Placed l.old size.rows size.hours n }
+    requires n_value { short size.hours l.old n (in_force size.hours (row size.hours l.old n)) ≡ false }
+    requires n_value_2 { over_confirming size.hours l.old n (in_force size.hours (row size.hours l.old n)) ≡ false }
+    ensures { l.new ≡ confirmed size.hours n (in_force size.hours (row size.hours l.old n)) l.old }
 {
-    let mut own = [0u32; MOST_HOURS as usize];
-    confirm_copied(l, rows, hours, n, &mut own[..count]);
-}
-
-pub fn confirm_own(l: &mut [u32], rows: usize, hours: usize, n: usize)
-    requires placed { Placed l.old rows hours n }
-    requires n_value { short hours l.old n (in_force hours (row hours l.old n)) ≡ false }
-    requires n_value_2 { over_confirming hours l.old n (in_force hours (row hours l.old n)) ≡ false }
-    ensures { l.new ≡ confirmed hours n (in_force hours (row hours l.old n)) l.old }
-{
-    let count = count_of(&l[..], rows, hours, n);
+    let count = count_of(&l[..], size, n);
     if count <= SHORT_SPAN {
-        confirm_short(l, rows, hours, n, count);
-        return;
+        confirm_copied::<SHORT_SPAN>(l, size, n, count);
+    } else {
+        confirm_copied::<LONGEST_SPAN>(l, size, n, count);
     }
-    confirm_long(l, rows, hours, n, count);
 }

@@ -10,7 +10,7 @@ use Rattle.words.specs.Lists.{total}
 use Rattle.rules.specs.Pick.{pick}
 use Rattle.rules.specs.Numbers.{CONFIRMED, DISPLACED}
 use Rattle.rules.specs.Layout.{rows, hours, used, row_of, row, available, span_hours, Sized}
-use Rattle.rules.specs.Sound.{firm}
+use Rattle.rules.specs.Sound.{sound, firm}
 use Rattle.rules.specs.Megawatts.{displace}
 use Rattle.rules.specs.SellerStatus.{seller_number}
 use Rattle.rules.specs.Act.{common_number, refusal, Outcome, refused, sound_both}
@@ -22,6 +22,7 @@ use Rattle.rules.specs.declared.Ending.{Ending}
 use Rattle.rules.specs.declared.Ending.TheVariants.{Kept, Lost, Unfinished, Refused}
 use Rattle.rules.proofs.Picks.{or_stops, or_goes}
 use Rattle.rules.proofs.Passed.{seller_status_passed}
+use Rattle.rules.proofs.Soundness.{both_facts}
 use Rattle.rules.proofs.Over.{over_displacing}
 use Rattle.rules.proofs.Contested.{displaced_by, row_lost, contest_passed, displacement_outcome}
 use Rattle.layout.specs.SoundAt.{SoundAt}
@@ -95,6 +96,9 @@ module _ (l ps : List ℕ) (k : Contest) (moves replies : List ℕ) {n : ℕ} (i
     passed_sound =
         let C = contest_passed l ps k (sym is ∙ none) in
         ((both_at l ps C.both).0, row_issued (hours l) l k C.seller)
+
+    pub sound_passed : sound l ≡ true
+    sound_passed = (both_facts l ps (contest_passed l ps k (sym is ∙ none)).both).0
 
     -- the ending decides
     pub ended_by : {e v : Ending} → e ≡ ending (hours l) l k moves replies → e ≡ v → contested l ps k moves replies ≡ ended l ps k v

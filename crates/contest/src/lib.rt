@@ -6,36 +6,31 @@ pub mod playing;
 
 ghost use Rattle.std.specs.Prelude.{◌≡◌, [], ◌≤◌};
 ghost use Rattle.rules.specs.Layout.{used};
-ghost use Rattle.rules.specs.Contest.{ending, row_kept, contested};
+ghost use Rattle.rules.specs.Contest.{ending, row_kept, contested, contest_number};
 ghost use Rattle.rules.proofs.Contested.{row_lost};
 ghost use Rattle.layout.specs.SoundAt.{SoundAt};
 
-use crate::number::{contest_number, present_term};
+use crate::number::{check_contest, present_term};
 use crate::playing::play;
-use layout::numbers::{
-    AVAILABLE_PART, CONFIRMED, DISPLACED, HOURS, ROWS, TERM_OUT_OF_RANGE, UNSOUND,
-};
+use layout::numbers::{CONFIRMED, DISPLACED};
+use layout::profile::Profile;
+use layout::size::Size;
+use layout::sound::size_of;
 use ledger::answering::{refused, span_total};
 use megawatts::moving::{displace, over_displacing};
-use rules::{Answer, Contest, Ending, Reference};
+use rules::{Answer, Contest, Ending, Reference, Refusal};
 
 // How the moves end: the last term is at first the row's own hours.
-fn contest_ending(
-    l: &[u32],
-    rows: usize,
-    hours: usize,
-    k: Contest,
-    moves: &[u32],
-    replies: &[u32],
-) -> Ending
-    requires sound_at { SoundAt l.now rows hours }
+fn contest_ending(l: &[u32], size: Size, k: Contest, moves: &[u32], replies: &[u32]) -> Ending
+    requires sound_at { SoundAt l.now size.rows size.hours }
     requires le_reference { (1 ≤ k.reference) × (k.reference ≤ used l.now) }
-    ensures { result ≡ ending hours l.now k moves.now replies.now }
+    ensures { result ≡ ending size.hours l.now k moves.now replies.now }
 {
-    let present = present_term(l, rows, hours, k);
+    let present = present_term(l, size, k);
     play(k.challenger, k.holder, present, moves, replies)
 }
 
+#[tactic(auto, unfolding(rules::specs::Contest::row_kept))]
 fn row_kept(k: Contest) -> Answer
     ensures { result ≡ (row_kept [] [] k).answer }
 {
@@ -49,24 +44,39 @@ fn row_kept(k: Contest) -> Answer
 }
 
 // A row lost is displaced, once the check that is judged last has passed.
-fn lose(l: &mut [u32], rows: usize, hours: usize, k: Contest) -> Answer
-    requires sound_at { SoundAt l.old rows hours }
+fn lose(l: &mut [u32], size: Size, k: Contest) -> Answer
+    requires sound_at { SoundAt l.old size.rows size.hours }
     requires le_reference { (1 ≤ k.reference) × (k.reference ≤ used l.old) }
-    ensures answer { result ≡ (row_lost hours l.old [] k).answer }
-    ensures ledger { l.new ≡ (row_lost hours l.old [] k).ledger }
+    ensures answer { result ≡ (row_lost size.hours l.old [] k).answer }
+    ensures ledger { l.new ≡ (row_lost size.hours l.old [] k).ledger }
 {
     let row = rules::row_of(Reference(k.reference));
-    if over_displacing(&l[..], rows, hours, row.0) {
-        return refused(UNSOUND);
+    if over_displacing(&l[..], size, row.0) {
+        return refused(Refusal::Unsound.number());
     }
-    let held = span_total(&l[..], rows, hours, row.0, AVAILABLE_PART);
-    displace(l, rows, hours, row.0);
+    let held = span_total(&l[..], size, row.0, Profile::Available);
+    displace(l, size, row.0);
     Answer {
         number: 0,
         reference: k.reference,
         before: CONFIRMED,
         after: DISPLACED,
         moved: held,
+    }
+}
+
+// A contest that passed the checks before its moves.
+fn play_out(l: &mut [u32], postings: &[u32], k: Contest, moves: &[u32], replies: &[u32]) -> Answer
+    requires { contest_number l.old postings.now k ≡ 0 }
+    ensures answer { result ≡ (contested l.old postings.now k moves.now replies.now).answer }
+    ensures ledger { l.new ≡ (contested l.old postings.now k moves.now replies.now).ledger }
+{
+    let size = size_of(&l[..]);
+    match contest_ending(&l[..], size, k, moves, replies) {
+        Ending::Kept => row_kept(k),
+        Ending::Lost => lose(l, size, k),
+        Ending::Unfinished => row_kept(k),
+        Ending::Refused => refused(Refusal::TermOutOfRange.number()),
     }
 }
 
@@ -81,17 +91,8 @@ pub fn run_contest(
     ensures answer { result ≡ (contested l.old postings.now k moves.now replies.now).answer }
     ensures ledger { l.new ≡ (contested l.old postings.now k moves.now replies.now).ledger }
 {
-    let n = contest_number(&l[..], postings, k);
-    if n != 0 {
-        return refused(n);
-    }
-    let rows = l[ROWS] as usize;
-    let hours = l[HOURS] as usize;
-    let end = contest_ending(&l[..], rows, hours, k, moves, replies);
-    match end {
-        Ending::Kept => row_kept(k),
-        Ending::Lost => lose(l, rows, hours, k),
-        Ending::Unfinished => row_kept(k),
-        Ending::Refused => refused(TERM_OUT_OF_RANGE),
+    match check_contest(&l[..], postings, k) {
+        Ok(()) => play_out(l, postings, k, moves, replies),
+        Err(refusal) => refused(refusal.number()),
     }
 }

@@ -9,9 +9,8 @@ pub fn play(challenger: u32, holder: u32, present: u32, moves: &[u32], replies: 
     ensures { result ≡ play_of challenger holder present moves.now replies.now }
 {
     let mut last = present;
-    let mut i = 0;
-    while i < moves.len() {
-        let term = moves[i];
+    for (i, term) in moves.iter().enumerate() {
+        let term = *term;
         if term == 0 {
             return Ending::Kept;
         }
@@ -21,17 +20,15 @@ pub fn play(challenger: u32, holder: u32, present: u32, moves: &[u32], replies: 
         if term <= last {
             return Ending::Refused;
         }
-        if i == replies.len() {
-            return Ending::Unfinished;
-        }
-        if replies[i] == 0 {
-            return Ending::Lost;
+        match replies.get(i) {
+            None => return Ending::Unfinished,
+            Some(0) => return Ending::Lost,
+            Some(_) => {}
         }
         if holder < term {
             return Ending::Refused;
         }
         last = term;
-        i += 1;
     }
     Ending::Unfinished
 }

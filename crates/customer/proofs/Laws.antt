@@ -12,13 +12,14 @@ use borrow.Author.Tests.{eqb-true}
 use Rattle.words.specs.Lists.{equal}
 use Rattle.words.proofs.Laws.{equal_lists}
 use Rattle.rules.specs.Pick.{pick, when, ◌among◌}
-use Rattle.rules.specs.Numbers.{row_words, most_price, requested_part, granted_part, approved, granted_given, CONFIRMED}
-use Rattle.rules.specs.Layout.{rows, hours, used, row, on_row, start, span_hours, span, requested, granted, has, has_flag, set_status, set_bid, set_hours, Sized}
+use Rattle.rules.specs.Numbers.{most_price, requested_part, granted_part, approved, granted_given, CONFIRMED}
+use Rattle.rules.specs.Layout.{rows, hours, used, row, on_row, start, span_hours, span, requested, granted, has, has_flag, set_status, set_bid, set_hours}
 use Rattle.rules.specs.Megawatts.{in_force, carries_over}
 use Rattle.rules.specs.Confirming.{confirm, short}
 use Rattle.rules.specs.Checks.{named, named_row, profile, comes}
 use Rattle.rules.specs.CustomerStatus.{bids, confirms, requested_after, unfit_bid, bidden, bid_after, customer_number, customer_after}
 use Rattle.rules.specs.declared.Action.{Action}
+use Rattle.rules.proofs.Picks.{choice, hit_by, and_stops, and_goes, compared}
 use Rattle.rules.proofs.Spans.{Spanned, set_spanned, span_set, span_length, put_word, put_other, put_own}
 use Rattle.rules.proofs.SoundFacts.{SoundLedger}
 use Rattle.rules.proofs.Formed.{Formed, formed}
@@ -32,10 +33,11 @@ use Rattle.rules.proofs.Kept.{Same, same_self, same_bidden, next_own, fitting_pr
 use Rattle.rules.proofs.Over.{over_confirming, over_status, own_bidden}
 use Rattle.rules.proofs.Before.{short_stays, over_confirming_stays, over_then_confirming, over_then_status}
 use Rattle.layout.specs.SoundAt.{SoundAt}
+use Rattle.layout.proofs.SoundAt.{head_fits}
 use Rattle.megawatts.specs.Placed.{Placed}
-use Rattle.megawatts.proofs.Laws.{sized, in_rows}
+use Rattle.megawatts.proofs.Laws.{sized, in_rows, own_length, own_words, force_length}
 use Rattle.megawatts.specs.Named.{Named, Suits}
-use Rattle.megawatts.proofs.Named.{names}
+use Rattle.megawatts.proofs.Named.{names, named_at, of_named, suits}
 
 -- ---- the profile in force of a row after a bid in it
 module _ {H : ℕ} {r : List ℕ} (m : Spanned H r) (w : List ℕ) (a : Action) (came : comes a ≡ true → length (profile w a) ≡ span_hours r) where
@@ -100,6 +102,14 @@ module _ {H : ℕ} {r : List ℕ} (m : Spanned H r) (w : List ℕ) (a : Action) 
       go true q = bid_granted
       go false q = bid_requested ∙ equal_lists (requested_after H w a r) (requested H r) (requested_long ∙ sym (span_length m requested_part (lit< tt))) q
 
+-- the profile that comes lies in its slice; requested after the action is as long as the span
+pub came_fits : (w : List ℕ) (a : Action) (r : List ℕ) → Suits w a r → comes a ≡ true → a.offset + a.length ≤ length w
+came_fits w a r q c = (q.profile c).fits
+
+pub after_length : {l : List ℕ} {R H n : ℕ} → Placed l R H n → (w : List ℕ) (a : Action) → Suits w a (row H l n) → length (requested_after H w a (row H l n)) ≡ span_hours (row H l n)
+after_length p w a q =
+    requested_long (record { long = own_length p; starts = omega (arith, (own_words p).starts); stops = (own_words p).stops }) w a (λ c. profile_length (q.profile c))
+
 -- ---- after a bid in row n
 record Bid (l : List ℕ) (R H n : ℕ) (w : List ℕ) (a : Action) : Type 0 where
   pub placed : Placed (on_row H n (bidden H w a) l) R H n
@@ -141,25 +151,27 @@ after_bid {l} {R} {H} {n} p w a price q =
     (subst (λ (x : ℕ). Bid l (rows l) x n w a) (sym p.hours)
     (own_bid p.formed p.row w a price (subst (λ (x : ℕ). Suits w a (row x l n)) p.hours q)))
 
--- confirming with the profile in force asks this of row n of a ledger
-abbrev Asked : List ℕ → ℕ → ℕ → ℕ → Type 0
-Asked l R H n = Placed l R H n × ((short H l n (in_force H (row H l n)) ≡ false) × (over_confirming H l n (in_force H (row H l n)) ≡ false))
-
 -- after a bid that 12 passed the profile in force is as it was, and what confirming asks still holds
 module _ {l l' : List ℕ} {R H n : ℕ} (p : Placed l R H n) (w : List ℕ) (a : Action) (price : a.price ≤ most_price) (q : Suits w a (row H l n)) (fit : unfit_bid H w a (row H l n) ≡ false) (e : l' ≡ on_row H n (bidden H w a) l) where
-  pub force_after : in_force H (row H l' n) ≡ in_force H (row H l n)
-  force_after = ap (λ (x : List ℕ). in_force H (row H x n)) e ∙ (after_bid p w a price q).force fit
+  here : Bid l R H n w a
+  here = after_bid p w a price q
 
-  pub asked_after : short H l n (in_force H (row H l n)) ≡ false → over_confirming H l n (in_force H (row H l n)) ≡ false → Asked l' R H n
-  asked_after s o =
-      let b = after_bid p w a price q in
-      let v : List ℕ = in_force H (row H l n) in
-      let f = b.force fit in
-      subst (λ (x : List ℕ). Asked x R H n) (sym e)
-      (b.placed, (ap (λ (x : List ℕ). short H (on_row H n (bidden H w a) l) n x) f ∙ b.short v ∙ s, ap (λ (x : List ℕ). over_confirming H (on_row H n (bidden H w a) l) n x) f ∙ b.over v ∙ o))
+  pub placed_after : Placed l' R H n
+  placed_after = subst (λ (x : List ℕ). Placed x R H n) (sym e) here.placed
+
+  pub force_after : in_force H (row H l' n) ≡ in_force H (row H l n)
+  force_after = ap (λ (x : List ℕ). in_force H (row H x n)) e ∙ here.force fit
+
+  pub short_after : short H l n (in_force H (row H l n)) ≡ false → short H l' n (in_force H (row H l' n)) ≡ false
+  short_after s =
+      ap (short H l' n) force_after ∙ ap (λ (x : List ℕ). short H x n (in_force H (row H l n))) e ∙ here.short (in_force H (row H l n)) ∙ s
+
+  pub over_after : over_confirming H l n (in_force H (row H l n)) ≡ false → over_confirming H l' n (in_force H (row H l' n)) ≡ false
+  over_after o =
+      ap (over_confirming H l' n) force_after ∙ ap (λ (x : List ℕ). over_confirming H x n (in_force H (row H l n))) e ∙ here.over (in_force H (row H l n)) ∙ o
 
 -- ---- an accepted move of the customer
-confirms_bids : (a : Action) → confirms a ≡ true → bids a ≡ true
+pub confirms_bids : (a : Action) → confirms a ≡ true → bids a ≡ true
 unfolding confirms bids
 confirms_bids a e = ap (λ (s : ℕ). s among (8 ∷ 13 ∷ [])) (eqb-true a.status CONFIRMED e)
 
@@ -170,17 +182,16 @@ module _ {l : List ℕ} {R H : ℕ} (s : SoundAt l R H) (w : List ℕ) (a : Acti
   pub accepted_named : {n : ℕ} → n ≡ named a → Named l R H a n
   accepted_named q = names s a passed.reference q
 
-  module _ (o : bids a ≡ true) where
-    accepted_price : a.price ≤ most_price
-    accepted_price = (passed.bid o).price
+  pub accepted_price : bids a ≡ true → a.price ≤ most_price
+  accepted_price o = (passed.bid o).price
 
-    accepted_suits : Suits w a (named_row H l a)
-    accepted_suits = record { profile = (passed.bid o).profile }
+  pub accepted_suits : bids a ≡ true → {n : ℕ} → n ≡ named a → Suits w a (row H l n)
+  accepted_suits o q = subst (λ (n : ℕ). Suits w a (row H l n)) (sym q) (record { profile = (passed.bid o).profile })
 
-  accepted_fit : confirms a ≡ true → unfit_bid H w a (named_row H l a) ≡ false
+  pub accepted_fit : confirms a ≡ true → unfit_bid H w a (named_row H l a) ≡ false
   accepted_fit c = (passed.bid (confirms_bids a c)).fit c
 
-  accepted_short : confirms a ≡ true → short H l (named a) (in_force H (named_row H l a)) ≡ false
+  pub accepted_short : confirms a ≡ true → short H l (named a) (in_force H (named_row H l a)) ≡ false
   accepted_short c = (confirm_passed H l (named a) (in_force H (named_row H l a)) (has approved (named_row H l a)) ((passed.bid (confirms_bids a c)).confirms c)).short
 
 -- ---- what it leaves
@@ -232,28 +243,9 @@ module _ {l : List ℕ} {R H : ℕ} (s : SoundAt l R H) (w : List ℕ) (a : Acti
       subst (λ (x : ℕ). carries_over x (customer_after x l w a) ≡ false) (sym s.hours)
       (over_rests s.sound w a (customer_status_passed (hours l) l w a number) c)
 
-  -- what the writing asks of row n, which the action names
-  abbrev Confirmable : ℕ → Type 0
-  Confirmable n =
-      Placed l R H n × ((Suits w a (row H l n) × (a.price ≤ most_price))
-      × ((unfit_bid H w a (row H l n) ≡ false) × ((short H l n (in_force H (row H l n)) ≡ false) × (over_confirming H l n (in_force H (row H l n)) ≡ false))))
+-- for what is read of row n, for the checks of an action, and for an accepted one
+pub ruleset own_row = (sized, in_rows, of_named, came_fits, after_length, force_length, and_stops, and_goes, compared)
 
-  pub confirm_asks : confirms a ≡ true → carries_over H (customer_after H l w a) ≡ false → {n : ℕ} → n ≡ named a → Confirmable n
-  confirm_asks c o q =
-      let b = confirms_bids a c in
-      subst (λ (n : ℕ). Confirmable n) (sym q)
-      ((accepted_named s w a e refl).placed, ((accepted_suits s w a e b, accepted_price s w a e b), (accepted_fit s w a e c, (accepted_short s w a e c, sym (over_confirmed c) ∙ o))))
+pub ruleset chosen = (choice, hit_by, head_fits, named_at, of_named, suits)
 
-  pub bid_asks : bids a ≡ true → {n : ℕ} → n ≡ named a → Placed l R H n × Suits w a (row H l n)
-  bid_asks b q =
-      let m = accepted_named s w a e q in
-      (m.placed, subst (λ (n : ℕ). Suits w a (row H l n)) (sym q) (accepted_suits s w a e b))
-
-  pub status_asks : {n : ℕ} → n ≡ named a → Sized l R H × ((n < R) × (1 < row_words))
-  status_asks q = let m = accepted_named s w a e q in (sized m.placed, (in_rows m.placed, lit< tt))
-
-  pub status_asks_after : bids a ≡ true → {n : ℕ} → n ≡ named a → {l' : List ℕ} → l' ≡ on_row H n (bidden H w a) l → Sized l' R H × ((n < R) × (1 < row_words))
-  status_asks_after b q d =
-      let m = bid_asks b q in
-      let p = (after_bid m.0 w a (accepted_price s w a e b) m.1).placed in
-      (subst (λ (x : List ℕ). Sized x R H) (sym d) (sized p), (in_rows p, lit< tt))
+pub ruleset accepting = (and_stops, and_goes, accepted_named, accepted_price, accepted_fit, accepted_short, confirms_bids, over_confirmed, over_never, after_confirming)

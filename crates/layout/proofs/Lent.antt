@@ -8,24 +8,31 @@ use Rattle.words.specs.Lists.{splice}
 use Rattle.words.proofs.Laws.{lent, lent_length, lent_back, set_splice}
 use Rattle.rules.specs.Numbers.{row_words}
 use Rattle.rules.specs.Layout.{row_base, row_size, row, on_row, hour_at, hours_of, set_hours, Sized}
+use Rattle.rules.proofs.Seen.{Room}
 use Rattle.rules.proofs.Rows.{row_fits, row_length, on_splice}
 use Rattle.layout.specs.Places.{RowAt, HoursAt}
 
--- row n, which starts at a
-module _ {l : List ℕ} {R H n a : ℕ} (s : Sized l R H) (at : RowAt R H n a) where
+-- row n, which starts at a and has k words
+module _ {l : List ℕ} {R H n a k : ℕ} (s : Sized l R H) (at : RowAt R H n a) (words : k ≡ row_size H) where
   inside : a + row_size H ≤ length l
   inside = omega (arith, s.long, at.fits)
 
-  pub row_lent : take (a + row_size H - a) (drop a l) ≡ row H l n
+  pub row_lent : take (a + k - a) (drop a l) ≡ row H l n
   unfolding row
-  row_lent = lent l a (row_base H n) (row_size H) at.is inside
+  row_lent = ap (λ (x : ℕ). take (a + x - a) (drop a l)) words ∙ lent l a (row_base H n) (row_size H) at.is inside
 
-  pub row_lent_length : length (take (a + row_size H - a) (drop a l)) ≡ row_size H
-  row_lent_length = lent_length l a (row_base H n) (row_size H) at.is inside
+  pub row_lent_length : length (take (a + k - a) (drop a l)) ≡ row_size H
+  row_lent_length = ap (λ (x : ℕ). length (take (a + x - a) (drop a l))) words ∙ lent_length l a (row_base H n) (row_size H) at.is inside
 
-  pub row_back : (f : List ℕ → List ℕ) (v : List ℕ) → length v ≡ length (take (a + row_size H - a) (drop a l)) → v ≡ f (take (a + row_size H - a) (drop a l)) → take a l ++ (v ++ drop (a + row_size H - a) (drop a l)) ≡ on_row H n f l
+  pub row_back : (f : List ℕ → List ℕ) (v : List ℕ) → length v ≡ length (take (a + k - a) (drop a l)) → v ≡ f (take (a + k - a) (drop a l)) → take a l ++ (v ++ drop (a + k - a) (drop a l)) ≡ on_row H n f l
   unfolding on_row
-  row_back f v kept e = lent_back l a (row_base H n) (row_size H) at.is inside v (f (row H l n)) kept (e ∙ ap f row_lent)
+  row_back f v kept e =
+      ap (λ (x : ℕ). take a l ++ (v ++ drop (a + x - a) (drop a l))) words
+      ∙ lent_back l a (row_base H n) (row_size H) at.is inside v (f (row H l n)) (kept ∙ ap (λ (x : ℕ). length (take (a + x - a) (drop a l))) words) (e ∙ ap f row_lent)
+
+-- a profile's words have room in a row of the ledger
+pub room_as : {l r : List ℕ} {R H n : ℕ} → Sized l R H → n < R → (s : ℕ) (v : List ℕ) → s + length v ≤ H → r ≡ row H l n → Room H s v r
+room_as z lt s v fits e = record { long = ap length e ∙ row_length z lt; fits = fits }
 
 -- a word of row n is stored: by its place in the ledger
 pub stored : {l : List ℕ} {R H n at : ℕ} → Sized l R H → n < R → at ≡ row_base H n → (k v : ℕ) → k < row_words → set l (at + k) v ≡ on_row H n (λ r. set r k v) l

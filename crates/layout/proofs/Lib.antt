@@ -1,3 +1,4 @@
+pub mod Profiles
 pub mod Lent
 pub mod Fresh
 pub mod Firm

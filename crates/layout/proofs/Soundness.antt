@@ -1,5 +1,5 @@
 -- Laws behind the test of soundness.
-use mathlib.Core.Path.{◌≡◌, refl, sym, ap, ◌∙◌}
+use mathlib.Core.Path.{◌≡◌, refl, sym, ap, subst, ◌∙◌}
 use mathlib.Core.Bool.{Bool, true, false, ◌&&◌}
 use mathlib.Core.List.{List}
 use Prim.Native.Nat.{ℕ, ◌≤◌, ◌<◌}
@@ -9,10 +9,11 @@ use lib.ListN.{length}
 use Rattle.words.specs.Lists.{all_below}
 use Rattle.rules.specs.Numbers.{head_words, profiles, most_hours}
 use Rattle.rules.specs.Pick.{◌is_from◌to◌}
-use Rattle.rules.specs.Layout.{rows, hours, row_of, row_size, row, reqtype, related, start, stop, related_row}
-use Rattle.rules.specs.Sound.{original, upward, relates, inside, sound_head, sound_words, sound_profile, sound_related}
+use Rattle.rules.specs.Layout.{Sized, rows, hours, row_of, row_size, row, reqtype, related, start, stop, related_row}
+use Rattle.rules.specs.Sound.{sound, original, upward, relates, inside, sound_head, sound_words, sound_profile, sound_related}
 use Rattle.rules.proofs.Rows.{row_least}
-use Rattle.rules.proofs.SoundFacts.{head_facts, words_facts}
+use Rattle.words.proofs.Laws.{and_left}
+use Rattle.rules.proofs.SoundFacts.{SoundHead, head_sized, head_facts, words_facts}
 use Rattle.layout.specs.Bounds.{Spanned}
 
 refuted : (b : Bool) → (b ≡ true → ⊥) → false ≡ b
@@ -22,6 +23,16 @@ refuted false h = refl
 -- a slice that is shorter than a head
 pub short_head : (l : List ℕ) → length l < head_words → false ≡ sound_head l
 short_head l lt = refuted (sound_head l) (λ e. omega (arith, lt, (head_facts l e).long, row_least (hours l) (rows l)))
+
+-- a sound ledger has a sound head
+pub head_of_sound : (l : List ℕ) → sound l ≡ true → sound_head l ≡ true
+unfolding sound
+head_of_sound l e = and_left _ _ e
+
+-- a sound head's ledger has the size that the head says
+pub head_sized_at : {l : List ℕ} {R H : ℕ} → SoundHead l → R ≡ rows l → H ≡ hours l → Sized l R H
+head_sized_at {l} {R} {H} k r h =
+    subst (λ (x : ℕ). Sized l x H) (sym r) (subst (λ (x : ℕ). Sized l (rows l) x) (sym h) (head_sized k))
 
 -- a row whose words are sound has its span in its hours
 pub spanned : (H : ℕ) (r : List ℕ) → length r ≡ row_size H → H ≤ most_hours → sound_words H r ≡ true → Spanned H r

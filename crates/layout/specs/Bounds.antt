@@ -1,14 +1,7 @@
 -- For contracts inside the crate: what is known of lengths and spans before words are read.
 use Rattle.std.specs.Prelude.{◌≡◌, List, [], ◌∷◌, ℕ, ◌≤◌, ◌<◌, length}
-use Rattle.rules.specs.Numbers.{head_words, most_hours}
-use Rattle.rules.specs.Layout.{row_base, row_size, start, stop}
-use Rattle.layout.specs.Places.{longest}
-
--- a is where row n starts, or where a ledger of n rows ends
-pub record EndAt (H n a : ℕ) : Type 0 where
-  pub is : a ≡ row_base H n
-  pub least : head_words ≤ a
-  pub small : a ≤ longest
+use Rattle.rules.specs.Numbers.{most_hours}
+use Rattle.rules.specs.Layout.{row_size, start, stop}
 
 -- a row of H hours whose span lies in them
 pub record Spanned (H : ℕ) (r : List ℕ) : Type 0 where

@@ -1,3 +1,4 @@
+pub mod Profiles
 pub mod Places
 pub mod Bounds
 pub mod SoundAt

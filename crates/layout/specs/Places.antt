@@ -13,6 +13,12 @@ pub record RowAt (R H n a : ℕ) : Type 0 where
   pub fits : a + row_size H ≤ row_base H R
   pub small : row_base H R ≤ longest
 
+-- a is where row n starts, or where a ledger of n rows ends
+pub record EndAt (H n a : ℕ) : Type 0 where
+  pub is : a ≡ row_base H n
+  pub least : head_words ≤ a
+  pub small : a ≤ longest
+
 -- a is where n hours of profile p start in a row, from hour s on, and they lie in it
 pub record HoursAt (H p s n a : ℕ) : Type 0 where
   pub is : a ≡ hour_at H p s

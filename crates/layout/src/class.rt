@@ -6,9 +6,11 @@ ghost use Rattle.rules.specs.Sound.{original, resold, relates as may_relate, fir
 
 use crate::numbers::*;
 use crate::rows::word_at;
+use crate::size::Size;
 use rules::{Reference, RowNumber};
 
 // ORIGINAL, firm and non-firm.
+#[tactic(auto, unfolding(rules::specs::Sound::original))]
 pub fn is_original(t: u32) -> bool
     ensures { result ≡ original t }
 {
@@ -16,6 +18,7 @@ pub fn is_original(t: u32) -> bool
 }
 
 // Sold by the related row's customer.
+#[tactic(auto, unfolding(rules::specs::Sound::resold))]
 pub fn is_resold(t: u32) -> bool
     ensures { result ≡ resold t }
 {
@@ -30,6 +33,7 @@ fn is_firm_type(t: u32) -> bool
 }
 
 // Whether a row of type t may be related to one of type u.
+#[tactic(auto, unfolding(rules::specs::Sound::relates))]
 pub fn relates(t: u32, u: u32) -> bool
     ensures { result ≡ may_relate t u }
 {
@@ -47,21 +51,21 @@ pub fn is_upward(related: u32, n: usize) -> bool
 }
 
 // Whether row n is firm, up the chain of related rows.
-pub fn firm(l: &[u32], rows: usize, hours: usize, n: RowNumber) -> bool
-    requires sized { Sized l.now rows hours }
-    requires n_lt_rows { n.0 < rows }
-    ensures { result ≡ is_firm hours l.now n.0 }
+pub fn firm(l: &[u32], size: Size, n: RowNumber) -> bool
+    requires sized { Sized l.now size.rows size.hours }
+    requires n_lt_rows { n.0 < size.rows }
+    ensures { result ≡ is_firm size.hours l.now n.0 }
 {
-    let t = word_at(l, rows, hours, n.0, REQTYPE);
+    let t = word_at(l, size, n.0, REQTYPE);
     if is_firm_type(t) {
         return true;
     }
     if !is_resold(t) {
         return false;
     }
-    let related = word_at(l, rows, hours, n.0, RELATED);
+    let related = word_at(l, size, n.0, RELATED);
     if !is_upward(related, n.0) {
         return false;
     }
-    firm(l, rows, hours, rules::row_of(Reference(related)))
+    firm(l, size, rules::row_of(Reference(related)))
 }

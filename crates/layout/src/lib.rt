@@ -4,5 +4,7 @@
 pub mod class;
 pub mod create;
 pub mod numbers;
+pub mod profile;
 pub mod rows;
+pub mod size;
 pub mod sound;

@@ -92,16 +92,7 @@ pub const OFFER_GIVEN: u32 = 16;
 // The row was ever at 6 or 7.
 pub const COUNTERED: u32 = 32;
 
-// Profiles of a row, in order.
-pub const REQUESTED_PART: usize = 0;
-
-pub const GRANTED_PART: usize = 1;
-
-pub const AVAILABLE_PART: usize = 2;
-
-pub const DISPLACED_PART: usize = 3;
-
-pub const REDUCED_PART: usize = 4;
+// Statuses and types are numbers, and no enums: words of the ledger, which C and the scheduling program read.
 
 // Statuses.
 pub const QUEUED: u32 = 1;
@@ -154,46 +145,3 @@ pub const PART_TRANSFER: u32 = 6;
 pub const FULL_TRANSFER: u32 = 7;
 
 pub const RELINQUISH: u32 = 8;
-
-// Refusals, by their numbers: what a call or an action answers where it is not carried out.
-pub const UNSOUND: u32 = 1;
-
-pub const OUT_OF_RANGE: u32 = 2;
-
-pub const WRONG_PARTY: u32 = 3;
-
-pub const NO_REFERENCE: u32 = 4;
-
-pub const WRONG_TIME: u32 = 5;
-
-pub const WRONG_SPAN: u32 = 6;
-
-pub const WRONG_PROFILE: u32 = 7;
-
-pub const NO_ROW_LEFT: u32 = 8;
-
-pub const WRONG_RELATED: u32 = 9;
-
-pub const WRONG_FLAGS: u32 = 10;
-
-pub const WRONG_MOVE: u32 = 11;
-
-pub const WRONG_PRICE: u32 = 12;
-
-pub const UNAPPROVED: u32 = 13;
-
-pub const SHORT: u32 = 14;
-
-pub const PARTLY_USED: u32 = 15;
-
-pub const TOO_EARLY: u32 = 16;
-
-pub const FEWER_ANSWERS: u32 = 17;
-
-pub const UNBALANCED: u32 = 20;
-
-pub const WRONG_PATH: u32 = 21;
-
-pub const OVER_POSTED: u32 = 22;
-
-pub const TERM_OUT_OF_RANGE: u32 = 25;

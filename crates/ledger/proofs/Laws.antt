@@ -12,7 +12,7 @@ use borrow.Author.Rules.{rules}
 use borrow.Author.Tests.{eqb-true, eqb-false, eq-eqb, ne_eqb}
 use Rattle.words.specs.Lists.{total}
 use Rattle.words.proofs.Laws.{part_length, total_most}
-use Rattle.rules.specs.Pick.{pick}
+use Rattle.rules.specs.Pick.{pick, ◌is_from◌to◌}
 use Rattle.rules.specs.Numbers.{profiles, most_kind, most_hours, most_megawatts, ACCEPTED, CR_ACCEPTED, CONFIRMED, DISPLACED, ANNULLED}
 use Rattle.rules.specs.Layout.{rows, hours, used, row_of, row, status, span, granted, available}
 use Rattle.rules.specs.Megawatts.{carries_over}
@@ -27,6 +27,9 @@ use Rattle.rules.specs.Clock.{clock_number, clock_after}
 use Rattle.rules.specs.Post.{post_number, posted}
 use Rattle.rules.specs.Moves.{confirmed_or_annulled}
 use Rattle.rules.specs.Act.{by_kind, kind_number, kind_after, postings_after, common_number, sound_both, number, refusal, subject, status_before, moved_between, moved_by, megawatt_hours, acceptance, answered, Outcome, refused, accepted, step}
+use Rattle.rules.specs.Kinds.{kind_code}
+use Rattle.rules.specs.declared.kind.Kind.{Kind}
+use Rattle.rules.specs.declared.kind.Kind.TheVariants.{Submit, SellerStatus, CustomerStatus, Approve, Reduce, Lapse, Clock, Post}
 use Rattle.rules.specs.declared.Action.{Action}
 use Rattle.rules.specs.declared.Answer.{Answer}
 use Rattle.rules.proofs.Picks.{takes, keeps}
@@ -57,6 +60,15 @@ module _ (H : ℕ) (l w : List ℕ) (a : Action) where
 
   abbrev pub after_by : ℕ → List ℕ
   after_by k = by_kind k (submit_after H l w a) (seller_after H l w a) (customer_after H l w a) (approve_after H l a) (reduce_after H l w a) (lapse_after H l a) (clock_after l a) l
+
+  -- of the kind's number k
+  pub number_is : {k : ℕ} → a.kind ≡ k → number_by k ≡ kind_number H l w a
+  unfolding kind_number
+  number_is e = sym (ap number_by e)
+
+  pub after_is : {k : ℕ} → a.kind ≡ k → after_by k ≡ kind_after H l w a
+  unfolding kind_after
+  after_is e = sym (ap after_by e)
 
   module _ (z : kind_number H l w a ≡ 0) where
     pub submit_none : a.kind ≡ 1 → submit_number H l w a ≡ 0
@@ -136,6 +148,27 @@ module _ (H : ℕ) (l w : List ℕ) (a : Action) where
     lapse_last e = ap (λ (k : ℕ). carries_over H (after_by k)) (sym e) ∙ z
 
 pub ruleset kinds = (rules, head_fits, submit_none, seller_none, customer_none, approve_none, reduce_none, lapse_none, seller_last, customer_last, reduce_last, lapse_last)
+
+-- ---- the number of a kind
+pub code_in : (kind : Kind) → (kind_code kind is_from 1 to most_kind) ≡ true
+code_in Submit = refl
+code_in SellerStatus = refl
+code_in CustomerStatus = refl
+code_in Approve = refl
+code_in Reduce = refl
+code_in Lapse = refl
+code_in Clock = refl
+code_in Post = refl
+
+pub is_reduce : (kind : Kind) → kind_code kind ≡ 5 → kind ≡ Reduce
+is_reduce Submit e = absurd (omega arith)
+is_reduce SellerStatus e = absurd (omega arith)
+is_reduce CustomerStatus e = absurd (omega arith)
+is_reduce Approve e = absurd (omega arith)
+is_reduce Reduce e = refl
+is_reduce Lapse e = absurd (omega arith)
+is_reduce Clock e = absurd (omega arith)
+is_reduce Post e = absurd (omega arith)
 
 -- ---- of two kinds the one that is meant
 one_of : {P : Type 0} (k j n m : ℕ) → (k ≡ j → n ≡ 0 → P) → (k ≢ j → m ≡ 0 → P) → pick (eqb k j) n m ≡ 0 → P
@@ -263,6 +296,11 @@ pub passes : (l ps w : List ℕ) (a : Action) → sound_both l ps ≡ true → n
 passes l ps w a s e =
     let p = number_passed l ps w a e in
     record { sound = (both_at l ps s).0; common = p.common; kind = p.kind; last = p.last }
+
+-- of the size that a sound ledger has
+pub passes_of : (l ps w : List ℕ) (a : Action) {R H : ℕ} → SoundAt l R H → sound_both l ps ≡ true → number true l ps w a ≡ 0 → Passes l w R H a
+passes_of l ps w a {R} {H} s b e =
+    subst (λ (x : ℕ). Passes l w x H a) (sym s.rows) (subst (λ (x : ℕ). Passes l w (rows l) x a) (sym s.hours) (passes l ps w a b e))
 
 module _ {l w : List ℕ} {R H : ℕ} {a : Action} (p : Passes l w R H a) where
   kind_at : kind_number (hours l) l w a ≡ 0

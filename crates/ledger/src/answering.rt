@@ -2,23 +2,27 @@
 ghost use Rattle.std.specs.Prelude.{◌≡◌, ◌≢◌, true, ◌<◌, eqb};
 ghost use Rattle.words.specs.Lists.{total};
 ghost use Rattle.rules.specs.Pick.{pick};
-ghost use Rattle.rules.specs.Numbers.{profiles, CONFIRMED as confirmed};
+ghost use Rattle.rules.specs.Numbers.{CONFIRMED as confirmed};
 ghost use Rattle.rules.specs.Layout.{hours, used, row, span, available};
 ghost use Rattle.rules.specs.Checks.{profile};
-ghost use Rattle.rules.specs.Act.{kind_after, postings_after, number as number_of, refusal, moved_between, moved_by, answered, sound_both};
+ghost use Rattle.rules.specs.Act.{kind_after, postings_after, number, refusal, moved_between, moved_by, answered, sound_both};
+ghost use Rattle.rules.specs.Kinds.{kind_code};
 ghost use Rattle.layout.specs.SoundAt.{SoundAt};
 ghost use Rattle.ledger.specs.Moving.{SmallProfile, Passes};
+ghost use Rattle.layout.specs.Profiles.{part_of};
 
 use crate::applying::apply;
-use crate::numbering::{CLOCK, POST, REDUCE, SUBMIT};
-use checks::checks::named;
-use layout::numbers::{
-    ANNULLED, AVAILABLE_PART, CONFIRMED, DISPLACED, GRANTED_PART, HOURS, ROWS, STATUS, USED,
-};
+use checks::checks::{named, profile};
+use layout::numbers::{ANNULLED, CONFIRMED, DISPLACED, STATUS, USED};
+use layout::profile::Profile;
 use layout::rows::word_at;
+use layout::size::Size;
+use layout::sound::size_of;
 use megawatts::reading::hours_total;
-use rules::{Action, Answer};
+use rules::{Action, Answer, Kind};
 
+// Five words: a number and four zeros.
+#[tactic(auto, unfolding(rules::specs::Act::refusal))]
 pub fn refused(number: u32) -> Answer
     ensures { result ≡ refusal number }
 {
@@ -32,43 +36,51 @@ pub fn refused(number: u32) -> Answer
 }
 
 // MW-hours of the span's hours of profile p of row n: at most 744 times 100,000, which a word holds.
-pub fn span_total(l: &[u32], rows: usize, hours: usize, n: usize, p: usize) -> u32
-    requires sound_at { SoundAt l.now rows hours }
-    requires n_bound { (n < used l.now) × (p < profiles) }
-    ensures { result ≡ total (span hours p (row hours l.now n)) }
+pub fn span_total(l: &[u32], size: Size, n: usize, p: Profile) -> u32
+    requires sound_at { SoundAt l.now size.rows size.hours }
+    requires n_bound { n < used l.now }
+    ensures { result ≡ total (span size.hours (part_of p) (row size.hours l.now n)) }
 {
-    hours_total(l, rows, hours, n, p) as u32
+    hours_total(l, size, n, p) as u32
 }
 
 // What row n has available before an action, if it is CONFIRMED: no other status has it counted.
-fn held_at(l: &[u32], rows: usize, hours: usize, n: usize, status: u32) -> u32
-    requires sound_at { SoundAt l.now rows hours }
+fn held_at(l: &[u32], size: Size, n: usize, status: u32) -> u32
+    requires sound_at { SoundAt l.now size.rows size.hours }
     requires n_bound { n < used l.now }
-    ensures { result ≡ pick (eqb status confirmed) (total (available hours (row hours l.now n))) 0 }
+    ensures { result ≡ pick (eqb status confirmed) (total (available size.hours (row size.hours l.now n))) 0 }
 {
     if status != CONFIRMED {
         return 0;
     }
-    span_total(l, rows, hours, n, AVAILABLE_PART)
+    span_total(l, size, n, Profile::Available)
 }
 
-// MW-hours moved as row n went from a status to another; held is what was available before.
-fn moved(l: &[u32], rows: usize, hours: usize, n: usize, old: u32, new: u32, held: u32) -> u32
-    requires sound_at { SoundAt l.now rows hours }
+// A row's way from a status to another; held is what was available before.
+#[derive(Clone, Copy)]
+struct Passage {
+    old: u32,
+    new: u32,
+    held: u32,
+}
+
+// MW-hours moved as row n went this way.
+fn moved(l: &[u32], size: Size, n: usize, way: Passage) -> u32
+    requires sound_at { SoundAt l.now size.rows size.hours }
     requires n_bound { n < used l.now }
-    ensures { result ≡ moved_between hours old new held (row hours l.now n) }
+    ensures { result ≡ moved_between size.hours way.old way.new way.held (row size.hours l.now n) }
 {
-    if old != CONFIRMED {
-        if new == CONFIRMED {
-            return span_total(l, rows, hours, n, GRANTED_PART);
+    if way.old != CONFIRMED {
+        if way.new == CONFIRMED {
+            return span_total(l, size, n, Profile::Granted);
         }
         return 0;
     }
-    if new == ANNULLED {
-        return span_total(l, rows, hours, n, GRANTED_PART);
+    if way.new == ANNULLED {
+        return span_total(l, size, n, Profile::Granted);
     }
-    if new == DISPLACED {
-        return held;
+    if way.new == DISPLACED {
+        return way.held;
     }
     0
 }
@@ -78,46 +90,47 @@ fn profile_total(words: &[u32], a: Action) -> u32
     requires { SmallProfile words.now a }
     ensures { result ≡ total (profile words.now a) }
 {
-    let from = a.offset as usize;
-    let count = a.length as usize;
-    words::total(&words[from..from + count]) as u32
+    words::total(profile(words, a)) as u32
 }
 
 // MW-hours of the accepted action on row n, from the ledger that it left: what was reduced, or moved.
 fn moved_by(
+    kind: Kind,
     l: &[u32],
     words: &[u32],
-    rows: usize,
-    hours: usize,
+    size: Size,
     n: usize,
     a: Action,
-    old: u32,
-    new: u32,
-    held: u32,
+    way: Passage,
 ) -> u32
-    requires sound_at { SoundAt l.now rows hours }
+    requires code { kind_code kind ≡ a.kind }
+    requires sound_at { SoundAt l.now size.rows size.hours }
     requires n_bound { n < used l.now }
     requires small_profile { a.kind ≡ 5 → SmallProfile words.now a }
-    ensures { result ≡ moved_by hours words.now a old new held (row hours l.now n) }
+    ensures { result ≡ moved_by size.hours words.now a way.old way.new way.held (row size.hours l.now n) }
 {
-    let kind = a.kind;
-    if kind == REDUCE {
-        return profile_total(words, a);
+    match kind {
+        Kind::Reduce => profile_total(words, a),
+        _ => moved(l, size, n, way),
     }
-    moved(l, rows, hours, n, old, new, held)
 }
 
-fn accept_submission(l: &mut [u32], words: &[u32], rows: usize, hours: usize, a: Action) -> Answer
-    requires passes { Passes l.old words.now rows hours a }
+fn accept_submission(l: &mut [u32], words: &[u32], size: Size, a: Action) -> Answer
+    requires passes { Passes l.old words.now size.rows size.hours a }
     requires kind_value { a.kind ≡ 1 }
-    ensures answer { result ≡ answered hours l.old words.now a (kind_after hours l.old words.now a) }
-    ensures ledger { l.new ≡ kind_after hours l.old words.now a }
+    ensures answer { result ≡ answered size.hours l.old words.now a (kind_after size.hours l.old words.now a) }
+    ensures ledger { l.new ≡ kind_after size.hours l.old words.now a }
 {
     let count = l[USED];
     let n = count as usize;
-    apply(l, words, rows, hours, a);
-    let status = word_at(&l[..], rows, hours, n, STATUS);
-    let amount = moved(&l[..], rows, hours, n, 0, status, 0);
+    apply(Kind::Submit, l, words, size, a);
+    let status = word_at(&l[..], size, n, STATUS);
+    let way = Passage {
+        old: 0,
+        new: status,
+        held: 0,
+    };
+    let amount = moved(&l[..], size, n, way);
     Answer {
         number: 0,
         reference: count + 1,
@@ -128,19 +141,25 @@ fn accept_submission(l: &mut [u32], words: &[u32], rows: usize, hours: usize, a:
 }
 
 // An action on a row that has a reference.
-fn accept_named(l: &mut [u32], words: &[u32], rows: usize, hours: usize, a: Action) -> Answer
-    requires passes { Passes l.old words.now rows hours a }
+fn accept_named(kind: Kind, l: &mut [u32], words: &[u32], size: Size, a: Action) -> Answer
+    requires code { kind_code kind ≡ a.kind }
+    requires passes { Passes l.old words.now size.rows size.hours a }
     requires kind_nonzero { (a.kind ≢ 1) × (a.kind ≢ 7) × (a.kind ≢ 8) }
-    ensures answer { result ≡ answered hours l.old words.now a (kind_after hours l.old words.now a) }
-    ensures ledger { l.new ≡ kind_after hours l.old words.now a }
+    ensures answer { result ≡ answered size.hours l.old words.now a (kind_after size.hours l.old words.now a) }
+    ensures ledger { l.new ≡ kind_after size.hours l.old words.now a }
 {
     let row = named(a);
     let n = row.0;
-    let before = word_at(&l[..], rows, hours, n, STATUS);
-    let held = held_at(&l[..], rows, hours, n, before);
-    apply(l, words, rows, hours, a);
-    let after = word_at(&l[..], rows, hours, n, STATUS);
-    let amount = moved_by(&l[..], words, rows, hours, n, a, before, after, held);
+    let before = word_at(&l[..], size, n, STATUS);
+    let held = held_at(&l[..], size, n, before);
+    apply(kind, l, words, size, a);
+    let after = word_at(&l[..], size, n, STATUS);
+    let way = Passage {
+        old: before,
+        new: after,
+        held,
+    };
+    let amount = moved_by(kind, &l[..], words, size, n, a, way);
     Answer {
         number: 0,
         reference: a.reference,
@@ -151,35 +170,39 @@ fn accept_named(l: &mut [u32], words: &[u32], rows: usize, hours: usize, a: Acti
 }
 
 // The clock gives five zeros.
-fn accept_clock(l: &mut [u32], words: &[u32], rows: usize, hours: usize, a: Action) -> Answer
-    requires passes { Passes l.old words.now rows hours a }
+fn accept_clock(l: &mut [u32], words: &[u32], size: Size, a: Action) -> Answer
+    requires passes { Passes l.old words.now size.rows size.hours a }
     requires kind_value { a.kind ≡ 7 }
-    ensures answer { result ≡ answered hours l.old words.now a (kind_after hours l.old words.now a) }
-    ensures ledger { l.new ≡ kind_after hours l.old words.now a }
+    ensures answer { result ≡ answered size.hours l.old words.now a (kind_after size.hours l.old words.now a) }
+    ensures ledger { l.new ≡ kind_after size.hours l.old words.now a }
 {
-    apply(l, words, rows, hours, a);
+    apply(Kind::Clock, l, words, size, a);
     refused(0)
 }
 
 // An action that passed every check. A posting gives five zeros too; it alone writes the postings.
-pub fn accept(l: &mut [u32], postings: &mut [u32], words: &[u32], a: Action) -> Answer
-    requires { (sound_both l.old postings.old ≡ true) × (number_of true l.old postings.old words.now a ≡ 0) }
+pub(crate) fn accept(
+    kind: Kind,
+    l: &mut [u32],
+    postings: &mut [u32],
+    words: &[u32],
+    a: Action,
+) -> Answer
+    requires code { kind_code kind ≡ a.kind }
+    requires passed { (sound_both l.old postings.old ≡ true) × (number true l.old postings.old words.now a ≡ 0) }
     ensures answer { result ≡ answered (hours l.old) l.old words.now a (kind_after (hours l.old) l.old words.now a) }
     ensures ledger { l.new ≡ kind_after (hours l.old) l.old words.now a }
     ensures postings { postings.new ≡ postings_after (hours l.old) postings.old words.now a }
 {
-    let rows = l[ROWS] as usize;
-    let hours = l[HOURS] as usize;
-    let kind = a.kind;
-    if kind == SUBMIT {
-        return accept_submission(l, words, rows, hours, a);
+    let size = size_of(&l[..]);
+    match kind {
+        Kind::Submit => accept_submission(l, words, size, a),
+        Kind::Clock => accept_clock(l, words, size, a),
+        Kind::Post => {
+            provider::post::post(postings, words, size, a);
+            refused(0)
+        }
+        Kind::SellerStatus | Kind::CustomerStatus | Kind::Approve | Kind::Reduce | Kind::Lapse =>
+            accept_named(kind, l, words, size, a),
     }
-    if kind == CLOCK {
-        return accept_clock(l, words, rows, hours, a);
-    }
-    if kind == POST {
-        provider::post::post(postings, words, hours, a);
-        return refused(0);
-    }
-    accept_named(l, words, rows, hours, a)
 }

@@ -2,44 +2,27 @@
 ghost use Rattle.std.specs.Prelude.{◌≡◌, false};
 ghost use Rattle.rules.specs.Megawatts.{carries_over};
 ghost use Rattle.rules.specs.Act.{kind_number, kind_after};
+ghost use Rattle.rules.specs.Kinds.{kind_code};
 ghost use Rattle.layout.specs.SoundAt.{SoundAt};
 
-use crate::numbering::{APPROVE, CLOCK, CUSTOMER_STATUS, LAPSE, REDUCE, SELLER_STATUS, SUBMIT};
-use rules::Action;
+use layout::size::Size;
+use rules::{Action, Kind};
 
-pub fn apply(l: &mut [u32], words: &[u32], rows: usize, hours: usize, a: Action)
-    requires sound_at { SoundAt l.old rows hours }
-    requires a_value { kind_number hours l.old words.now a ≡ 0 }
-    requires a_value_2 { carries_over hours (kind_after hours l.old words.now a) ≡ false }
-    ensures { l.new ≡ kind_after hours l.old words.now a }
+pub(crate) fn apply(kind: Kind, l: &mut [u32], words: &[u32], size: Size, a: Action)
+    requires code { kind_code kind ≡ a.kind }
+    requires sound_at { SoundAt l.old size.rows size.hours }
+    requires a_value { kind_number size.hours l.old words.now a ≡ 0 }
+    requires a_value_2 { carries_over size.hours (kind_after size.hours l.old words.now a) ≡ false }
+    ensures { l.new ≡ kind_after size.hours l.old words.now a }
 {
-    let kind = a.kind;
-    if kind == SUBMIT {
-        submission::submitting::submit(l, words, rows, hours, a);
-        return;
+    match kind {
+        Kind::Submit => submission::submitting::submit(l, words, size, a),
+        Kind::SellerStatus => seller::status::seller_status(l, words, size, a),
+        Kind::CustomerStatus => customer::customer_status(l, words, size, a),
+        Kind::Approve => provider::approve::approve(l, size, a),
+        Kind::Reduce => provider::reduce::reduce(l, words, size, a),
+        Kind::Lapse => provider::lapse::lapse(l, size, a),
+        Kind::Clock => provider::clock::clock(l, a),
+        Kind::Post => {}
     }
-    if kind == SELLER_STATUS {
-        seller::status::seller_status(l, words, rows, hours, a);
-        return;
-    }
-    if kind == CUSTOMER_STATUS {
-        customer::customer_status(l, words, rows, hours, a);
-        return;
-    }
-    if kind == APPROVE {
-        provider::approve::approve(l, rows, hours, a);
-        return;
-    }
-    if kind == REDUCE {
-        provider::reduce::reduce(l, words, rows, hours, a);
-        return;
-    }
-    if kind == LAPSE {
-        provider::lapse::lapse(l, rows, hours, a);
-        return;
-    }
-    if kind != CLOCK {
-        return;
-    }
-    provider::clock::clock(l, a);
 }

@@ -1,4 +1,4 @@
-// Every action: its number, the ledger and the postings that it leaves, and its answer.
+// Every action: its checks, the ledger and the postings that it leaves, and its answer.
 #![tactic(auto)]
 
 pub mod answering;
@@ -17,11 +17,10 @@ pub fn step(l: &mut [u32], postings: &mut [u32], words: &[u32], sound: bool, a: 
     ensures ledger { l.new ≡ (step_of sound l.old postings.old words.now a).ledger }
     ensures postings { postings.new ≡ (step_of sound l.old postings.old words.now a).postings }
 {
-    let n = numbering::number(&l[..], &postings[..], words, sound, a);
-    if n != 0 {
-        return answering::refused(n);
+    match numbering::check(&l[..], &postings[..], words, sound, a) {
+        Ok(kind) => answering::accept(kind, l, postings, words, a),
+        Err(refusal) => answering::refused(refusal.number()),
     }
-    answering::accept(l, postings, words, a)
 }
 
 // An action on any words.

@@ -1,6 +1,8 @@
 // The ledger for others to link: the calls offered to the outside.
 #![tactic(auto)]
 
+mod stamps;
+
 ghost use Rattle.std.specs.Prelude.{◌≡◌, length};
 ghost use Rattle.rules.specs.Pick.{pick};
 ghost use Rattle.rules.specs.Create.{create_number, created};
@@ -12,8 +14,9 @@ ghost use Rattle.rules.specs.ReadOut.{shown, charge as charge_of};
 ghost use Rattle.stamp.specs.Stamp.{reading, comparison, write_number, written};
 ghost use Rattle.luddrisa.specs.HandedOut.{handed_out};
 
-use layout::numbers::FEWER_ANSWERS;
-use rules::{Action, Answer, Contest};
+use layout::create::Creation;
+use rules::{Action, Answer, Contest, Refusal, number_of};
+use stamps::{NOT_READ, NOT_WRITTEN};
 
 // A fresh ledger: 0, or 1 with nothing written.
 #[unsafe(no_mangle)]
@@ -28,7 +31,14 @@ pub extern "C" fn luddrisa_create(
     ensures number { result ≡ create_number ledger.old rows hours provider window base }
     ensures ledger { ledger.new ≡ created ledger.old rows hours provider window base }
 {
-    layout::create::create(ledger, rows, hours, provider, window, base)
+    let new = Creation {
+        rows,
+        hours,
+        provider,
+        window,
+        base,
+    };
+    number_of(layout::create::create(ledger, new))
 }
 
 // Opening: 0, 1 for an unsound ledger, or 20 where some hour does not balance. The ledger is only read.
@@ -36,7 +46,7 @@ pub extern "C" fn luddrisa_create(
 pub extern "C" fn luddrisa_open(ledger: &[u32]) -> u32
     ensures { result ≡ open_number ledger.now }
 {
-    opening::open_number(ledger)
+    number_of(opening::check_open(ledger))
 }
 
 // Actions in turn, each answered; ledger and postings are tested once. 17: fewer answers than actions, nothing done.
@@ -54,13 +64,11 @@ pub extern "C" fn luddrisa_batch(
     ensures answers { answers.new ≡ together_answers ledger.old postings.old words.now actions.now answers.old }
 {
     if answers.len() < actions.len() {
-        return FEWER_ANSWERS;
+        return Refusal::FewerAnswers.number();
     }
     let sound = layout::sound::sound_both(ledger, postings);
-    let mut i = 0;
-    while i < actions.len() {
-        answers[i] = ledger::step(ledger, postings, words, sound, actions[i]);
-        i += 1;
+    for (i, action) in actions.iter().enumerate() {
+        answers[i] = ledger::step(ledger, postings, words, sound, *action);
     }
     0
 }
@@ -100,10 +108,7 @@ pub extern "C" fn luddrisa_annuls_in_order(
 ) -> u32
     ensures { result ≡ pick (annuls_in_order ledger.now postings.now references.now) 1 0 }
 {
-    if unwinding::annuls_in_order(ledger, postings, references) {
-        return 1;
-    }
-    0
+    unwinding::annuls_in_order(ledger, postings, references) as u32
 }
 
 // The charge of a CONFIRMED row in cents, or its number with 0 cents.
@@ -113,8 +118,8 @@ pub extern "C" fn luddrisa_charge(ledger: &[u32], reference: u32, cents: &mut u6
     ensures amount { cents.new ≡ (charge_of ledger.now reference).amount }
 {
     let charged = readout::charge(ledger, reference);
-    *cents = charged.cents;
-    charged.number
+    *cents = charged.unwrap_or(0);
+    number_of(charged)
 }
 
 // Words into the front of out where they fit.
@@ -147,9 +152,9 @@ pub extern "C" fn luddrisa_read_stamp(bytes: &[u8], second: &mut u32) -> u32
     ensures number { result ≡ (reading bytes.now).number }
     ensures second { second.new ≡ (reading bytes.now).second }
 {
-    let r = stamp::read_stamp(bytes);
-    *second = r.second;
-    r.number
+    let read = stamp::read_stamp(bytes);
+    *second = read.unwrap_or(0);
+    stamps::number_of(read, NOT_READ)
 }
 
 // Two stamps by their seconds: 0 with order 0, 1 or 2 as the first is earlier, the same or later, or 18 with order 0.
@@ -158,9 +163,9 @@ pub extern "C" fn luddrisa_compare_stamps(first: &[u8], second: &[u8], order: &m
     ensures number { result ≡ (comparison (reading first.now) (reading second.now)).number }
     ensures order { order.new ≡ (comparison (reading first.now) (reading second.now)).order }
 {
-    let c = stamp::compare_stamps(first, second);
-    *order = c.order;
-    c.number
+    let compared = stamp::compare_stamps(first, second);
+    *order = compared.map_or(0, stamps::order_number);
+    stamps::number_of(compared, NOT_READ)
 }
 
 // The stamp of a second in a zone: 0, or 19 with nothing written.
@@ -169,5 +174,5 @@ pub extern "C" fn luddrisa_write_stamp(bytes: &mut [u8], second: u32, zone: u32)
     ensures number { result ≡ write_number bytes.old second zone }
     ensures stamp { bytes.new ≡ written bytes.old second zone }
 {
-    stamp::write_stamp(bytes, second, zone)
+    stamps::number_of(stamp::write_stamp(bytes, second, zone), NOT_WRITTEN)
 }

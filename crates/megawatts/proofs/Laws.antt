@@ -12,7 +12,7 @@ use borrow.Author.Tests.{not-false, le-leb}
 use Rattle.words.specs.Lists.{part, splice, zip2, covered, roomy, most_word, Apart}
 use Rattle.words.proofs.Laws.{lt_or_le, lent, part_length, all_below_lem, roomy_at, zip_length}
 use Rattle.rules.specs.Pick.{pick}
-use Rattle.rules.specs.Numbers.{row_words, profiles, most_hours, most_megawatts, available_part, displaced_part, reduced_part, requested_part, granted_part, granted_given, RELINQUISH}
+use Rattle.rules.specs.Numbers.{row_words, profiles, most_megawatts, available_part, displaced_part, reduced_part, requested_part, granted_part, granted_given, RELINQUISH}
 use Rattle.rules.specs.Layout.{rows, row_base, row_size, row, on_row, reqtype, start, stop, related_row, has, hour_at, hours_of, span_hours, span, requested, granted, available, displaced, reduced, set_hours, add_hours, less_hours, Sized}
 use Rattle.rules.specs.Sound.{original}
 use Rattle.rules.specs.Megawatts.{in_force, take_from, returns_to, give_back}
@@ -24,8 +24,8 @@ use Rattle.rules.proofs.Writes.{returns_profile}
 use Rattle.rules.proofs.SoundFacts.{SoundWords, SoundRelation}
 use Rattle.rules.proofs.Formed.{FormedHours, formed_sized}
 use Rattle.rules.proofs.Over.{full, over_annulling, over_displacing, over_reducing}
-use Rattle.layout.specs.Places.{RowAt, HoursAt}
-use Rattle.layout.proofs.Lent.{row_lent, row_lent_length}
+use Rattle.layout.specs.Places.{HoursAt}
+use Rattle.layout.specs.Bounds as Whole
 use Rattle.megawatts.specs.Placed.{Placed, HoursIn}
 
 -- ---- tests
@@ -115,14 +115,11 @@ module _ {l : List ℕ} {R H n q s count a : ℕ} (z : Sized l R H) (lt : n < R)
   pub hours_lent : take (a + count - a) (drop a l) ≡ hours_of H q s count (row H l n)
   hours_lent = lent l a (row_base H n + hour_at H q s) count at.is at.fits ∙ hours_there
 
--- a row in use that is lent: its length, and its span in the ledger's hours
-pub lent_spanned : {l : List ℕ} {R H n a : ℕ} → Placed l R H n → RowAt R H n a →
-    let r = take (a + row_size H - a) (drop a l) in ((length r ≡ row_size H) × (H ≤ most_hours)) × ((start r < stop r) × (stop r ≤ H))
-lent_spanned {l} {R} {H} {n} {a} p at =
-    let e = row_lent (sized p) at in
-    let f : get_or (take (a + row_size H - a) (drop a l)) 5 0 ≡ start (row H l n) = ap (λ (r : List ℕ). get_or r 5 0) e in
-    let g : get_or (take (a + row_size H - a) (drop a l)) 6 0 ≡ stop (row H l n) = ap (λ (r : List ℕ). get_or r 6 0) e in
-    ((row_lent_length (sized p) at, (sized p).hours), (omega (arith, f, g, (own_words p).starts), omega (arith, g, (own_words p).stops)))
+-- a row in use, as it is or as it is lent
+pub spanned_as : {l r : List ℕ} {R H n : ℕ} → Placed l R H n → r ≡ row H l n → Whole.Spanned H r
+spanned_as {l} {r} {R} {H} {n} p e =
+    subst (λ (x : List ℕ). Whole.Spanned H x) (sym e)
+    (record { long = own_length p; hours = (sized p).hours; starts = omega (arith, (own_words p).starts); stops = (own_words p).stops })
 
 -- the span's hours of profile q of a row in use
 module _ {l : List ℕ} {R H n q a : ℕ} (p : Placed l R H n) (qlt : q < profiles) (at : HoursIn l H n q (start (row H l n)) (span_hours (row H l n)) a) where

@@ -1,4 +1,5 @@
-// What moves megawatts, apart from confirming, on the words of a ledger that is lent: taking, giving back, displacing, annulling, reducing.
+// What moves megawatts, apart from confirming, on the words of a ledger that is lent: taking, giving back, displacing,
+// annulling, reducing.
 #![tactic(auto)]
 
 pub mod giving;

@@ -7,7 +7,7 @@ use Prim.Native.Nat.{ℕ, ◌+◌, ◌-◌, ◌≤◌, ◌<◌}
 use native.Mathlib.Nat.{mul-le-mul_right}
 use native.Mathlib.Omega.{arith}
 use lib.Dec.{eqb, leb, lit<}
-use lib.ListN.{length, get_or, take, drop}
+use lib.ListN.{length, get_or}
 use borrow.Author.Tests.{le-leb}
 use Rattle.words.specs.Lists.{word_at, build, all_below, sum_below, zip2, noughts, equal, roomy, most_word}
 use Rattle.words.proofs.Laws.{and_right, all_cong, all_below_lem, sum_cong, build_length, build_at, zip_length, part_length, part_at, noughts_length, noughts_at}
@@ -20,9 +20,7 @@ use Rattle.rules.proofs.Seen.{hour_in}
 use Rattle.rules.proofs.SoundFacts.{SoundHours}
 use Rattle.rules.proofs.Types.{original_range}
 use Rattle.layout.specs.SoundAt.{SoundAt}
-use Rattle.layout.specs.Places.{RowAt, HoursAt}
 use Rattle.layout.proofs.SoundAt.{sized_at}
-use Rattle.layout.proofs.Lent.{row_lent, row_lent_length, hours_lent, hours_lent_length}
 use Rattle.paths.specs.Changes.{Adds, Summed}
 use Rattle.paths.proofs.Hourly.{adds_adds}
 use Rattle.opening.specs.Chains.{draw_link, link_of, Chained, Unchained, Falling, chain_sum}
@@ -76,16 +74,6 @@ module _ {l : List ℕ} {R H : ℕ} (s : SoundAt l R H) where
     hours_compared sums e =
         ap (λ (k : ℕ). all_below k (λ h. eqb (word_at sums h) (word_at (hours_of H p 0 k (row H l n)) h))) e
         ∙ all_cong _ _ H (λ h hlt. ap (eqb (word_at sums h)) (hours_at h hlt))
-
-  -- as they are lent
-  module _ {n p at from : ℕ} (a : RowAt R H n at) (f : HoursAt H p 0 H from) where
-    pub lent_hours : take (from + H - from) (drop from (take (at + row_size H - at) (drop at l))) ≡ hours_of H p 0 H (row H l n)
-    lent_hours =
-        hours_lent (take (at + row_size H - at) (drop at l)) (row_lent_length (sized_at s) a) f
-        ∙ ap (λ (r : List ℕ). hours_of H p 0 H r) (row_lent (sized_at s) a)
-
-    pub lent_long : length (take (from + H - from) (drop from (take (at + row_size H - at) (drop at l)))) ≡ H
-    lent_long = hours_lent_length (take (at + row_size H - at) (drop at l)) (row_lent_length (sized_at s) a) f
 
   -- ---- shares
   module _ {n h : ℕ} (lt : n < used l) (hlt : h < H) where
@@ -163,21 +151,11 @@ module _ {H : ℕ} {l : List ℕ} {tree : Bool} {befores sums₀ : List ℕ} {la
 
 -- ---- what is held against granted of row n, in a tree or in an equation
 module _ {l : List ℕ} {R H : ℕ} (s : SoundAt l R H) {n : ℕ} (lt : n < used l) where
-  -- at the start: nothing, or what the row holds
-  pub start_none : {tree : Bool} → tree ≡ true → (sums : List ℕ) {next : List ℕ} → length sums ≡ H → next ≡ noughts (length sums) → Summed H (λ h. own_share tree H l h n) next
-  unfolding own_share
-  start_none {tree} t sums long e =
+  -- at the start: what the row holds, or nothing
+  pub start_own : (tree : Bool) (sums : List ℕ) {one next : List ℕ} → length sums ≡ H → one ≡ noughts (length sums) → Adds (λ h. own_share tree H l h n) one next → Summed H (λ h. own_share tree H l h n) next
+  start_own _ sums long e a =
       let o = sums_none H sums long e in
-      record { long = o.long; each = λ h hlt. omega (arith, o.most h hlt, ap (λ (b : Bool). pick b 0 (held_of H l h n)) t) }
-
-  pub start_held : {tree : Bool} → tree ≡ false → (sums : List ℕ) {one next : List ℕ} → length sums ≡ H → one ≡ noughts (length sums) → Adds (λ h. held_of H l h n) one next → Summed H (λ h. own_share tree H l h n) next
-  unfolding own_share
-  start_held {tree} f sums long e a =
-      let o = sums_none H sums long e in
-      record {
-        long = a.long ∙ o.long;
-        each = λ h hlt. omega (arith, o.most h hlt, a.each h (omega (arith, hlt, o.long)), ap (λ (b : Bool). pick b 0 (held_of H l h n)) f);
-      }
+      record { long = a.long ∙ o.long; each = λ h hlt. omega (arith, o.most h hlt, a.each h (omega (arith, hlt, o.long))) }
 
   pub start_room : (tree : Bool) {sums : List ℕ} → Summed H (λ h. own_share tree H l h n) sums → Sums H most_share sums
   unfolding own_share
@@ -250,14 +228,10 @@ module _ {l : List ℕ} {R H : ℕ} (s : SoundAt l R H) (link : ℕ → ℕ) {li
       (subst (λ (k : ℕ). Chained (λ n. word_at links n) k lasts befores) e c)
 
 -- the equations by shares are the equations; the trees are the trees
-pub rows_told : {l : List ℕ} {R H u : ℕ} → SoundAt l R H → u ≡ used l → {c : Bool} → c ≡ all_below u (λ n. balanced_by false H l n) → c ≡ all_below u (λ n. balanced_row H l n)
+pub rows_told : {l : List ℕ} {R H : ℕ} → SoundAt l R H → {c : Bool} → c ≡ all_below (used l) (λ n. balanced_by false H l n) → c ≡ all_below (used l) (λ n. balanced_row H l n)
 unfolding balanced_by
-rows_told {l} {R} {H} s e q =
-    q
-    ∙ ap (λ (k : ℕ). all_below k (λ n. balanced_shares H l n)) e
-    ∙ sym (rows_by_shares (relations_at s))
-    ∙ ap (λ (k : ℕ). all_below k (λ n. balanced_row H l n)) (sym e)
+rows_told s q = q ∙ sym (rows_by_shares (relations_at s))
 
-pub trees_told : (H : ℕ) (l : List ℕ) (u : ℕ) {c : Bool} → c ≡ all_below u (λ n. balanced_by true H l n) → c ≡ all_below u (λ n. balanced_tree H l n)
+pub trees_told : (H : ℕ) (l : List ℕ) {c : Bool} → c ≡ all_below (used l) (λ n. balanced_by true H l n) → c ≡ all_below (used l) (λ n. balanced_tree H l n)
 unfolding balanced_by
-trees_told H l u q = q
+trees_told H l q = q

@@ -42,13 +42,6 @@ pub record Unchained (links lasts befores : List ℕ) : Type 0 where
   pub few : length links ≤ most_rows
   pub low : (n : ℕ) → n < length links → word_at links n ≤ length links
 
--- what is lent to chain N rows and add up H hours
-pub record Lent (N H : ℕ) (links lasts befores sums : List ℕ) : Type 0 where
-  pub links_long : length links ≡ N
-  pub lasts_long : length lasts ≡ N + 1
-  pub befores_long : length befores ≡ N
-  pub sums_long : length sums ≡ H
-
 -- each row has an earlier one before it
 pub record Falling (N : ℕ) (befores : List ℕ) : Type 0 where
   pub long : length befores ≡ N

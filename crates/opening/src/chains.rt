@@ -1,112 +1,119 @@
-// Which rows count for which: links, and the rows with the same link chained.
-ghost use Rattle.std.specs.Prelude.{◌≡◌, ◌+◌, ◌<◌, length};
-ghost use Rattle.words.specs.Lists.{word_at, build, noughts};
-ghost use Rattle.rules.specs.Layout.{Sized, used as used_rows};
-ghost use Rattle.rules.specs.Open.{stands as is_standing};
+// The used rows of a ledger, chained by the row that they count for, and the sums over a chain.
+ghost use Rattle.std.specs.Prelude.{◌≡◌, ◌+◌, ◌<◌, ◌≤◌, length};
+ghost use Rattle.words.specs.Lists.{word_at, all_below, noughts};
+ghost use Rattle.rules.specs.Layout.{used as used_rows};
 ghost use Rattle.layout.specs.SoundAt.{SoundAt};
-ghost use Rattle.opening.specs.Chains.{draw_link, root_link, link_of, Chained, Unchained};
+ghost use Rattle.paths.specs.Changes.{Adds, Summed};
+ghost use Rattle.opening.specs.Chains.{link_of, Chained, Unchained, chain_sum};
+ghost use Rattle.opening.specs.Shares.{share_of, sum_of, balanced_by, most_share, Sums};
 
-use layout::numbers::{CONFIRMED, DISPLACED, RELATED, STATUS};
-use layout::rows::word_at;
-
-// Row n is CONFIRMED or DISPLACED.
-pub fn stands(l: &[u32], rows: usize, hours: usize, n: usize) -> bool
-    requires sized { Sized l.now rows hours }
-    requires n_lt_rows { n < rows }
-    ensures { result ≡ is_standing hours l.now n }
-{
-    let status = word_at(l, rows, hours, n, STATUS);
-    (status == CONFIRMED) | (status == DISPLACED)
-}
-
-// The row that row n draws on.
-fn draw_link(l: &[u32], rows: usize, hours: usize, n: usize) -> u32
-    requires sized { Sized l.now rows hours }
-    requires n_lt_rows { n < rows }
-    ensures { result ≡ draw_link hours l.now n }
-{
-    if stands(l, rows, hours, n) {
-        return word_at(l, rows, hours, n, RELATED);
-    }
-    0
-}
-
-// The links of all used rows.
-
-fn link_draws(links: &mut [u32], l: &[u32], rows: usize, hours: usize)
-    requires sound_at { SoundAt l.now rows hours }
-    requires links_len { length links.old ≡ used_rows l.now }
-    ensures { links.new ≡ build (used_rows l.now) (λ n. draw_link hours l.now n) }
-{
-    for n in 0..links.len() {
-        links[n] = draw_link(l, rows, hours, n);
-    }
-}
-
-fn link_roots(links: &mut [u32], l: &[u32], rows: usize, hours: usize)
-    requires sound_at { SoundAt l.now rows hours }
-    requires links_len { length links.old ≡ used_rows l.now }
-    ensures { links.new ≡ build (used_rows l.now) (λ n. root_link hours l.now n) }
-{
-    for n in 0..links.len() {
-        let related = word_at(l, rows, hours, n, RELATED) as usize;
-        if related == 0 {
-            links[n] = n as u32 + 1;
-        } else {
-            links[n] = links[related - 1];
-        }
-    }
-}
+use crate::sums::equals_hours;
+use crate::testing::Test;
+use layout::numbers::{MOST_ROWS, USED};
+use layout::profile::Profile;
+use layout::size::Size;
+use std::marker::PhantomData;
 
 // Rows are chained by their links. The lasts were 0.
-fn chain_cleared(lasts: &mut [u32], befores: &mut [u32], links: &[u32])
+fn chain(lasts: &mut [u32], befores: &mut [u32], links: &[u32])
     requires unchained { Unchained links.now lasts.old befores.old }
     requires lasts_value { lasts.old ≡ noughts (length lasts.old) }
     ensures { Chained (λ n. word_at links.now n) (length links.now) lasts.new befores.new }
 {
-    for n in 0..links.len() {
-        let link = links[n] as usize;
+    for (n, link) in links.iter().enumerate() {
+        let link = *link as usize;
         befores[n] = lasts[link];
         lasts[link] = n as u32 + 1;
     }
 }
 
-// They are chained, whatever the lasts were.
-fn chain(lasts: &mut [u32], befores: &mut [u32], links: &[u32])
-    requires { Unchained links.now lasts.old befores.old }
-    ensures { Chained (λ n. word_at links.now n) (length links.now) lasts.new befores.new }
-{
-    words::clear(lasts);
-    chain_cleared(lasts, befores, links);
+// For each row the last one that counts for it, and the one before each, as references: the library has no heap.
+#[derive(Drop)]
+pub struct Chains<'a, T: Test> {
+    l: &'a [u32],
+    size: Size,
+    lasts: &'a [u32],
+    befores: &'a [u32],
+    of: PhantomData<T>,
+    ghost sound_at: { SoundAt l.now size.rows size.hours },
+    ghost chained: { Chained (λ n. link_of T.of_trees size.hours l.now n) (used_rows l.now) lasts.now befores.now },
 }
 
-// Links of a tree, or of what draws.
-fn link_rows(links: &mut [u32], l: &[u32], rows: usize, hours: usize, tree: bool)
-    requires sound_at { SoundAt l.now rows hours }
-    requires links_len { length links.old ≡ used_rows l.now }
-    ensures { links.new ≡ build (used_rows l.now) (λ n. link_of tree hours l.now n) }
-{
-    if tree {
-        link_roots(links, l, rows, hours);
-        return;
+impl<'a, T: Test> Chains<'a, T> {
+    pub fn new(
+        lasts: &'a mut [u32],
+        befores: &'a mut [u32],
+        l: &'a [u32],
+        size: Size,
+    ) -> Chains<'a, T>
+        requires sound_at { SoundAt l.now size.rows size.hours }
+        requires lasts_len { length lasts.old ≡ used_rows l.now + 1 }
+        requires befores_len { length befores.old ≡ used_rows l.now }
+        ensures { (result.l.now ≡ l.now) × (result.size.rows ≡ size.rows) × (result.size.hours ≡ size.hours) }
+    {
+        let used = l[USED] as usize;
+        // No heap in the library: memory for the most rows.
+        let mut buffer = [0u32; MOST_ROWS as usize];
+        let links = &mut buffer[..used];
+        T::link_rows(links, l, size);
+        words::clear(lasts);
+        chain(lasts, befores, links);
+        Chains {
+            l,
+            size,
+            lasts,
+            befores,
+            of: PhantomData,
+        }
     }
-    link_draws(links, l, rows, hours);
-}
 
-// All used rows are linked and chained.
-pub fn chain_rows(
-    links: &mut [u32],
-    lasts: &mut [u32],
-    befores: &mut [u32],
-    l: &[u32],
-    rows: usize,
-    hours: usize,
-    tree: bool,
-)
-    requires sound_at { SoundAt l.now rows hours }
-    requires links_len { (length links.old ≡ used_rows l.now) × (length lasts.old ≡ used_rows l.now + 1) × (length befores.old ≡ used_rows l.now) }
-    ensures { Chained (λ n. link_of tree hours l.now n) (used_rows l.now) lasts.new befores.new }
-{
-    link_rows(links, l, rows, hours, tree);
-    chain(lasts, befores, &links[..]);
+    // The shares of the rows of a chain are added, from reference last on.
+    fn add_chain(&self, sums: &mut [u32], last: u32)
+        requires last_bound { last ≤ used_rows self.now.l.now }
+        requires sums { Sums self.now.size.hours most_share sums.old }
+        ensures { Adds (λ h. chain_sum self.now.befores.now (λ c. share_of T.of_trees self.now.size.hours self.now.l.now h c) last) sums.old sums.new }
+    {
+        let mut m = last as usize;
+        while m != 0 {
+            T::add_share(sums, self.l, self.size, m - 1);
+            m = self.befores[m - 1] as usize;
+        }
+    }
+
+    // What is held against granted of row n, by hour.
+    fn sum_rows(&self, sums: &mut [u32], n: usize)
+        requires n_bound { n < used_rows self.now.l.now }
+        requires sums_len { length sums.old ≡ self.now.size.hours }
+        ensures { Summed self.now.size.hours (λ h. sum_of T.of_trees self.now.size.hours self.now.l.now h n) sums.new }
+    {
+        words::clear(sums);
+        T::add_own(sums, self.l, self.size, n);
+        self.add_chain(sums, self.lasts[n + 1]);
+    }
+
+    // Whether what is tested of row n holds in every hour.
+    fn row_balanced(&self, sums: &mut [u32], n: usize) -> bool
+        requires n_bound { n < used_rows self.now.l.now }
+        requires sums_len { length sums.old ≡ self.now.size.hours }
+        ensures { result ≡ balanced_by T.of_trees self.now.size.hours self.now.l.now n }
+    {
+        if !T::is_tested(self.l, self.size, n) {
+            return true;
+        }
+        self.sum_rows(sums, n);
+        equals_hours(sums, self.l, self.size, n, Profile::Granted)
+    }
+
+    // Of all used rows. What is lent is written over.
+    pub fn balanced(&self, sums: &mut [u32]) -> bool
+        requires { length sums.old ≡ self.now.size.hours }
+        ensures { result ≡ all_below (used_rows self.now.l.now) (λ n. balanced_by T.of_trees self.now.size.hours self.now.l.now n) }
+    {
+        for n in 0..self.l[USED] as usize {
+            if !self.row_balanced(sums, n) {
+                return false;
+            }
+        }
+        true
+    }
 }

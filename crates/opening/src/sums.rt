@@ -6,90 +6,41 @@ ghost use Rattle.rules.specs.Layout.{used as used_rows, row, hour_at};
 ghost use Rattle.rules.specs.Open.{held_of};
 ghost use Rattle.layout.specs.SoundAt.{SoundAt};
 ghost use Rattle.paths.specs.Changes.{Adds};
-ghost use Rattle.opening.specs.Chains.{Falling, chain_sum};
-ghost use Rattle.opening.specs.Shares.{share_of, most_share, most_sum, Sums};
+ghost use Rattle.opening.specs.Shares.{most_share, most_sum, Sums};
+ghost use Rattle.layout.specs.Profiles.{part_of};
 
-use layout::numbers::{
-    AVAILABLE_PART, DISPLACED_PART, GRANTED_PART, NONFIRM_REDIRECT, PROFILES, REDUCED_PART,
-    REQTYPE, ROW_WORDS,
-};
-use layout::rows::{hours_at, row_at, word_at};
+use layout::profile::Profile;
+use layout::rows::{hours, row};
+use layout::size::Size;
 
 // Profile p of row n is added.
-pub fn add_hours(sums: &mut [u32], l: &[u32], rows: usize, hours: usize, n: usize, p: usize)
-    requires sound_at { SoundAt l.now rows hours }
-    requires n_bound { (n < used_rows l.now) × (p < profiles) }
-    requires sums { Sums hours (most_sum + most_share) sums.old }
-    ensures { Adds (λ h. word_at (row hours l.now n) (hour_at hours p h)) sums.old sums.new }
+pub fn add_hours(sums: &mut [u32], l: &[u32], size: Size, n: usize, p: Profile)
+    requires sound_at { SoundAt l.now size.rows size.hours }
+    requires n_bound { n < used_rows l.now }
+    requires sums { Sums size.hours (most_sum + most_share) sums.old }
+    ensures { Adds (λ h. word_at (row size.hours l.now n) (hour_at size.hours (part_of p) h)) sums.old sums.new }
 {
-    let at = row_at(rows, hours, n);
-    let size = ROW_WORDS + PROFILES * hours;
-    let r = &l[at..at + size];
-    let from = hours_at(hours, p, 0, hours);
-    words::add(sums, &r[from..from + hours]);
+    words::add(sums, hours(row(l, size, n), size, p, 0, size.hours));
 }
 
 // Whether the sums are profile p of row n.
-pub fn equals_hours(sums: &[u32], l: &[u32], rows: usize, hours: usize, n: usize, p: usize) -> bool
-    requires sound_at { SoundAt l.now rows hours }
-    requires n_bound { (n < used_rows l.now) × (p < profiles) }
-    requires sums_len { length sums.now ≡ hours }
-    ensures { result ≡ all_below hours (λ h. eqb (word_at sums.now h) (word_at (row hours l.now n) (hour_at hours p h))) }
+pub fn equals_hours(sums: &[u32], l: &[u32], size: Size, n: usize, p: Profile) -> bool
+    requires sound_at { SoundAt l.now size.rows size.hours }
+    requires n_bound { n < used_rows l.now }
+    requires sums_len { length sums.now ≡ size.hours }
+    ensures { result ≡ all_below size.hours (λ h. eqb (word_at sums.now h) (word_at (row size.hours l.now n) (hour_at size.hours (part_of p) h))) }
 {
-    let at = row_at(rows, hours, n);
-    let size = ROW_WORDS + PROFILES * hours;
-    layout::rows::equals_hours(&l[at..at + size], hours, p, 0, sums)
+    layout::rows::equals_hours(row(l, size, n), size, p, 0, sums)
 }
 
 // What row n holds is added: available, displaced and reduced.
-pub fn add_held(sums: &mut [u32], l: &[u32], rows: usize, hours: usize, n: usize)
-    requires sound_at { SoundAt l.now rows hours }
+pub fn add_held(sums: &mut [u32], l: &[u32], size: Size, n: usize)
+    requires sound_at { SoundAt l.now size.rows size.hours }
     requires n_bound { n < used_rows l.now }
-    requires sums { Sums hours most_sum sums.old }
-    ensures { Adds (λ h. held_of hours l.now h n) sums.old sums.new }
+    requires sums { Sums size.hours most_sum sums.old }
+    ensures { Adds (λ h. held_of size.hours l.now h n) sums.old sums.new }
 {
-    add_hours(sums, l, rows, hours, n, AVAILABLE_PART);
-    add_hours(sums, l, rows, hours, n, DISPLACED_PART);
-    add_hours(sums, l, rows, hours, n, REDUCED_PART);
-}
-
-// The share of row n is added, in a tree or in an equation.
-fn add_share(sums: &mut [u32], l: &[u32], rows: usize, hours: usize, n: usize, tree: bool)
-    requires sound_at { SoundAt l.now rows hours }
-    requires n_bound { n < used_rows l.now }
-    requires sums { Sums hours most_sum sums.old }
-    ensures { Adds (λ h. share_of tree hours l.now h n) sums.old sums.new }
-{
-    if tree {
-        add_held(sums, l, rows, hours, n);
-        return;
-    }
-    if word_at(l, rows, hours, n, REQTYPE) == NONFIRM_REDIRECT {
-        add_held(sums, l, rows, hours, n);
-        return;
-    }
-    add_hours(sums, l, rows, hours, n, GRANTED_PART);
-}
-
-// The shares of the rows of a chain are added, from reference last on.
-pub fn add_chain(
-    sums: &mut [u32],
-    befores: &[u32],
-    l: &[u32],
-    rows: usize,
-    hours: usize,
-    last: u32,
-    tree: bool,
-)
-    requires sound_at { SoundAt l.now rows hours }
-    requires falling { Falling (used_rows l.now) befores.now }
-    requires last_bound { last ≤ used_rows l.now }
-    requires sums { Sums hours most_share sums.old }
-    ensures { Adds (λ h. chain_sum befores.now (λ c. share_of tree hours l.now h c) last) sums.old sums.new }
-{
-    let mut m = last as usize;
-    while m != 0 {
-        add_share(sums, l, rows, hours, m - 1, tree);
-        m = befores[m - 1] as usize;
-    }
+    add_hours(sums, l, size, n, Profile::Available);
+    add_hours(sums, l, size, n, Profile::Displaced);
+    add_hours(sums, l, size, n, Profile::Reduced);
 }

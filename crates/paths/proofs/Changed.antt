@@ -3,16 +3,17 @@ use mathlib.Core.Path.{◌≡◌, refl, sym, ap, subst, ◌∙◌}
 use mathlib.Core.Logic.{◌≢◌}
 use mathlib.Core.Bool.{Bool, true, false, ◌&&◌, ◌||◌, not}
 use mathlib.Core.List.{List}
+use Rattle.std.specs.Prelude.{Option, None, Some}
 use Prim.Native.Nat.{ℕ, ◌+◌, ◌-◌, ◌≤◌, ◌<◌}
 use native.Mathlib.Decide.{ℕ_discrete}
 use native.Mathlib.Omega.{arith}
 use lib.Dec.{eqb, leb, lit<}
-use lib.ListN.{length, get_or}
+use lib.ListN.{length}
 use borrow.Author.Tests.{eq-eqb, ne_eqb, not-false}
 use Rattle.words.specs.Lists.{word_at, within}
 use Rattle.words.proofs.Laws.{sum_cong, all_cong, within_all}
 use Rattle.rules.specs.Pick.{pick}
-use Rattle.rules.specs.Numbers.{profiles, most_megawatts, granted_given, requested_part, granted_part, available_part, NONFIRM_REDIRECT, RELINQUISH, CONFIRMED}
+use Rattle.rules.specs.Numbers.{profiles, most_megawatts, granted_given, requested_part, granted_part, available_part, NONFIRM_REDIRECT, RELINQUISH}
 use Rattle.rules.specs.Layout.{used, row, reqtype, path, start, related_row, span_hours, hour_at, span, has, requested, granted, standing}
 use Rattle.rules.specs.Sound.{original}
 use Rattle.rules.specs.Moves.{is_confirmed}
@@ -20,19 +21,20 @@ use Rattle.rules.specs.Megawatts.{in_force}
 use Rattle.rules.specs.Confirming.{short, drawn_from}
 use Rattle.rules.specs.Paths.{posted_in, holds_on, counts_on, use_of}
 use Rattle.rules.proofs.Picks.{and_stops}
+use Rattle.rules.proofs.Types.{derived_type}
 use Rattle.rules.proofs.Writes.{covered_hour}
-use Rattle.rules.proofs.SoundFacts.{SoundHours, range}
+use Rattle.rules.proofs.SoundFacts.{SoundHours}
 use Rattle.rules.proofs.Spans.{span_at, hour_standing}
 use Rattle.rules.proofs.Spans as spans
 use Rattle.rules.proofs.After.{counts_by, confirmed_with, confirmed_but, held_confirming, held_annulling, use_confirming, use_annulling}
 use Rattle.rules.proofs.OverPaths.{exceeds, exceeds_at}
 use Rattle.layout.specs.SoundAt.{SoundAt}
 use Rattle.megawatts.specs.Placed.{Placed}
-use Rattle.megawatts.proofs.Laws.{own_words, own_length, room, span_fits, span_length, type_three, related_in}
+use Rattle.megawatts.proofs.Laws.{own_words, own_length, room, span_fits, span_length, type_three, related_in, related_placed, redirect_three}
 use Rattle.megawatts.proofs.Named.{placed_at}
 use Rattle.paths.specs.declared.Change.{Change}
-use Rattle.paths.specs.Changes.{confirmed_after, held_in, added_by, use_by, Changing}
-use Rattle.paths.specs.Exceeding.{Confirms, Annuls, Unchanged}
+use Rattle.paths.specs.Changes.{is_at, moved, confirmed_after, held_in, added_by, use_by, Changing}
+use Rattle.paths.specs.Exceeding.{above, Confirms, Annuls, Unchanged}
 
 -- ---- by the same rows CONFIRMED; by the same use
 counts_cong : (H : ℕ) (l : List ℕ) (confirmed confirmed' : ℕ → Bool) → ((m : ℕ) → confirmed m ≡ confirmed' m) → (x m : ℕ) → counts_by H l confirmed x m ≡ counts_by H l confirmed' x m
@@ -53,7 +55,7 @@ module _ (H : ℕ) (ps : List ℕ) (uses uses' : ℕ → ℕ → ℕ) (same : (x
       ap (λ (b : Bool). b || not (original (reqtype (row H l n))) && exceeds H ps uses (path (row H l (related_row H l n)))) (exceeds_cong (path (row H l n)))
       ∙ ap (λ (b : Bool). exceeds H ps uses' (path (row H l n)) || not (original (reqtype (row H l n))) && b) (exceeds_cong (path (row H l (related_row H l n))))
 
--- ---- tests with no row
+-- ---- tests of a row that may be none
 pick_or : (b d : Bool) → pick b true d ≡ (b || d)
 pick_or true d = refl
 pick_or false d = refl
@@ -66,49 +68,53 @@ pick_not : (b : Bool) (u v : ℕ) → pick (not b) u v ≡ pick b v u
 pick_not true u v = refl
 pick_not false u v = refl
 
-picked : (o : Bool) (q : ℕ) {m R : ℕ} → m ≢ R → eqb m (pick o q R) ≡ (o && eqb m q)
-picked true q ne = refl
-picked false q {m} {R} ne = ne_eqb m R ne
+picked : (o : Bool) (q m : ℕ) → is_at (pick o (Some q) None) m ≡ (o && eqb m q)
+picked true q m = refl
+picked false q m = refl
 
-picked_not : (o : Bool) (q : ℕ) {m R : ℕ} → m ≢ R → eqb m (pick o R q) ≡ (not o && eqb m q)
-picked_not true q {m} {R} ne = ne_eqb m R ne
-picked_not false q ne = refl
+picked_not : (o : Bool) (q m : ℕ) → is_at (pick o None (Some q)) m ≡ (not o && eqb m q)
+picked_not true q m = refl
+picked_not false q m = refl
 
 -- available after a change, by the tests
 abbrev held : ℕ → ℕ → Bool → Bool → Bool → Bool → ℕ
 held a y own holds less more = pick own (pick holds y 0) (pick less (a - y) (pick more (a + y) a))
 
+moved_as : (c : Change) {s : ℕ} {mw : List ℕ} → c.start ≡ s → c.mw.now ≡ mw → (h : ℕ) → moved c h ≡ standing s mw h
+moved_as c {s} {mw} e f h = ap (λ (j : ℕ). standing j c.mw.now h) e ∙ ap (λ (v : List ℕ). standing s v h) f
+
 -- ---- confirming
-module _ {H : ℕ} {l : List ℕ} {R n : ℕ} {c : Change} (k : Confirms H l R n c) (mw : List ℕ) where
+module _ {H : ℕ} {l : List ℕ} {n : ℕ} {mw : List ℕ} {c : Change} (k : Confirms H l n mw c) where
   abbrev t : ℕ
   t = reqtype (row H l n)
 
   after_confirming : (m : ℕ) → confirmed_after H l c m ≡ confirmed_with H l n m
   unfolding confirmed_after confirmed_with
   after_confirming m =
-      ap (λ (j : ℕ). pick (eqb m j) c.confirmed (is_confirmed (row H l m))) k.own
+      ap (λ (j : Option ℕ). pick (is_at j m) c.confirmed (is_confirmed (row H l m))) k.own
       ∙ ap (λ (b : Bool). pick (eqb m n) b (is_confirmed (row H l m))) k.confirmed
       ∙ pick_or (eqb m n) (is_confirmed (row H l m))
 
-  held_with : (h m : ℕ) → m ≢ R → held_in H (row H l m) c (start (row H l n)) mw m h ≡ held_confirming H l n mw h m
+  held_with : (h m : ℕ) → held_in H (row H l m) c m h ≡ held_confirming H l n mw h m
   unfolding held_in held_confirming
-  held_with h m ne =
+  held_with h m =
       let a : ℕ = word_at (row H l m) (hour_at H available_part h) in
       let y : ℕ = standing (start (row H l n)) mw h in
       let p : ℕ = related_row H l n in
       let q : ℕ = related_row H l (related_row H l n) in
-      ap (λ (j : ℕ). held a y (eqb m j) c.holds (eqb m c.less) (eqb m c.more)) k.own
-      ∙ ap (λ (b : Bool). held a y (eqb m n) b (eqb m c.less) (eqb m c.more)) k.holds
-      ∙ ap (λ (b : Bool). held a y (eqb m n) (not (eqb t RELINQUISH)) b (eqb m c.more)) (ap (λ (j : ℕ). eqb m j) k.less ∙ picked_not (original t) p ne)
-      ∙ ap (λ (b : Bool). held a y (eqb m n) (not (eqb t RELINQUISH)) (not (original t) && eqb m p) b) (ap (λ (j : ℕ). eqb m j) k.more ∙ picked (eqb t RELINQUISH) q ne)
+      ap (λ (z : ℕ). held a z (is_at c.row m) c.holds (is_at c.less m) (is_at c.more m)) (moved_as c k.start k.given h)
+      ∙ ap (λ (j : Option ℕ). held a y (is_at j m) c.holds (is_at c.less m) (is_at c.more m)) k.own
+      ∙ ap (λ (b : Bool). held a y (eqb m n) b (is_at c.less m) (is_at c.more m)) k.holds
+      ∙ ap (λ (b : Bool). held a y (eqb m n) (not (eqb t RELINQUISH)) b (is_at c.more m)) (ap (λ (j : Option ℕ). is_at j m) k.less ∙ picked_not (original t) p m)
+      ∙ ap (λ (b : Bool). held a y (eqb m n) (not (eqb t RELINQUISH)) (not (original t) && eqb m p) b) (ap (λ (j : Option ℕ). is_at j m) k.more ∙ picked (eqb t RELINQUISH) q m)
       ∙ ap (λ (v : ℕ). pick (eqb m n) v (pick (not (original t) && eqb m p) (a - y) (pick (eqb t RELINQUISH && eqb m q) (a + y) a))) (pick_not (eqb t RELINQUISH) y 0)
 
-  pub use_confirming_lem : used l ≤ R → (x h : ℕ) → use_by H l c (start (row H l n)) mw x h ≡ use_confirming H l n mw x h
+  pub use_confirming_lem : (x h : ℕ) → use_by H l c x h ≡ use_confirming H l n mw x h
   unfolding use_by use_confirming added_by
-  use_confirming_lem most x h =
+  use_confirming_lem x h =
       sum_cong (used l) _ _ (λ m lt.
-      ap (λ (b : Bool). pick b (held_in H (row H l m) c (start (row H l n)) mw m h) 0) (counts_cong H l (confirmed_after H l c) (confirmed_with H l n) after_confirming x m)
-      ∙ ap (λ (v : ℕ). pick (counts_by H l (confirmed_with H l n) x m) v 0) (held_with h m (λ e. omega (arith, e, lt, most))))
+      ap (λ (b : Bool). pick b (held_in H (row H l m) c m h) 0) (counts_cong H l (confirmed_after H l c) (confirmed_with H l n) after_confirming x m)
+      ∙ ap (λ (v : ℕ). pick (counts_by H l (confirmed_with H l n) x m) v 0) (held_with h m))
 
 not_short : (o d : Bool) → o ≡ false → (not o && not d) ≡ false → d ≡ true
 not_short o d f e = not-false d (sym (ap (λ (x : Bool). not x && not d) f) ∙ e)
@@ -117,20 +123,26 @@ module _ {l : List ℕ} {R H n : ℕ} (s : SoundAt l R H) (lt : n < used l) wher
   own : Placed l R H n
   own = placed_at s lt
 
-  pub used_rows_lem : used l ≤ R
-  used_rows_lem = omega (arith, s.sound.head.used, s.rows)
-
-  module _ {c : Change} (k : Confirms H l R n c) (mw : List ℕ) (long : length mw ≡ span_hours (row H l n)) where
-    drawn_by : (o : Bool) → original (reqtype (row H l n)) ≡ o → short H l n mw ≡ false → c.less < used l → (h : ℕ) → h < H → standing (start (row H l n)) mw h ≤ word_at (row H l c.less) (hour_at H available_part h)
+  module _ {c : Change} {mw : List ℕ} (k : Confirms H l n mw c) (long : length mw ≡ span_hours (row H l n)) where
+    drawn_by : (o : Bool) → original (reqtype (row H l n)) ≡ o → short H l n mw ≡ false → (m : ℕ) → c.less ≡ Some m → (h : ℕ) → h < H → moved c h ≤ word_at (row H l m) (hour_at H available_part h)
     unfolding short drawn_from
-    drawn_by true e ample less h hlt = let z : c.less ≡ R = k.less ∙ ap (λ (b : Bool). pick b R (related_row H l n)) e in absurd (omega (arith, z, less, used_rows_lem))
-    drawn_by false e ample less h hlt =
-        let z : c.less ≡ related_row H l n = k.less ∙ ap (λ (b : Bool). pick b R (related_row H l n)) e in
-        subst (λ (j : ℕ). standing (start (row H l n)) mw h ≤ word_at (row H l j) (hour_at H available_part h)) (sym z)
-        (covered_hour hlt (room own mw long (related_in own (type_three own e))) available_part (lit< tt) (not_short (original (reqtype (row H l n))) _ e ample))
+    drawn_by true e ample m less h hlt =
+        let z : None ≡ Some m = sym (k.less ∙ ap (λ (b : Bool). pick b None (Some (related_row H l n))) e) ∙ less in
+        absurd (cc)
+    drawn_by false e ample m less h hlt =
+        let z : Some (related_row H l n) ≡ Some m = sym (k.less ∙ ap (λ (b : Bool). pick b None (Some (related_row H l n))) e) ∙ less in
+        let q : related_row H l n ≡ m = cc in
+        subst (λ (v : ℕ). v ≤ word_at (row H l m) (hour_at H available_part h)) (sym (moved_as c k.start k.given h))
+        (subst (λ (j : ℕ). standing (start (row H l n)) mw h ≤ word_at (row H l j) (hour_at H available_part h)) q
+        (covered_hour hlt (room own mw long (related_in own (type_three own e))) available_part (lit< tt) (not_short (original (reqtype (row H l n))) _ e ample)))
 
-    pub confirming_fits : within most_megawatts mw ≡ true → short H l n mw ≡ false → Changing l R H c (start (row H l n)) mw
-    confirming_fits most ample = record { sound = s; fits = span_fits own mw long; most = most; drawn = drawn_by (original (reqtype (row H l n))) refl ample }
+    pub confirming_fits : within most_megawatts mw ≡ true → short H l n mw ≡ false → Changing l R H c
+    confirming_fits most ample = record {
+      sound = s;
+      fits = omega (arith, span_fits own mw long, k.start, ap length k.given);
+      most = ap (λ (v : List ℕ). within most_megawatts v) k.given ∙ most;
+      drawn = λ m less _. drawn_by (original (reqtype (row H l n))) refl ample m less;
+    }
 
 -- ---- a span of row n has no word over 100,000
 module _ {l : List ℕ} {R H n : ℕ} (s : SoundAt l R H) (lt : n < used l) where
@@ -157,19 +169,19 @@ module _ {l : List ℕ} {R H n : ℕ} (s : SoundAt l R H) (lt : n < used l) wher
       go false = span_most requested_part (lit< tt)
 
 -- ---- annulling
-module _ {l : List ℕ} {R H n : ℕ} (s : SoundAt l R H) (lt : n < used l) {c : Change} (k : Annuls H l R n c) where
-  pub annulling_fits : Changing l R H c (start (row H l n)) (granted H (row H l n))
+module _ {l : List ℕ} {R H n : ℕ} (s : SoundAt l R H) (lt : n < used l) {c : Change} (k : Annuls H l n c) where
+  pub annulling_fits : Changing l R H c
   annulling_fits = record {
     sound = s;
-    fits = span_fits (own s lt) (granted H (row H l n)) (span_length (own s lt) granted_part (lit< tt));
-    most = span_most s lt granted_part (lit< tt);
-    drawn = λ less h hlt. absurd (omega (arith, less, k.less, used_rows_lem s lt));
+    fits = omega (arith, span_fits (own s lt) (granted H (row H l n)) (span_length (own s lt) granted_part (lit< tt)), k.start, ap length k.given);
+    most = ap (λ (v : List ℕ). within most_megawatts v) k.given ∙ span_most s lt granted_part (lit< tt);
+    drawn = λ m less mlt h hlt. absurd (let z : None ≡ Some m = sym k.less ∙ less in cc);
   }
 
   after_annulling : (m : ℕ) → confirmed_after H l c m ≡ confirmed_but H l n m
   unfolding confirmed_after confirmed_but
   after_annulling m =
-      ap (λ (j : ℕ). pick (eqb m j) c.confirmed (is_confirmed (row H l m))) k.own
+      ap (λ (j : Option ℕ). pick (is_at j m) c.confirmed (is_confirmed (row H l m))) k.own
       ∙ ap (λ (b : Bool). pick (eqb m n) b (is_confirmed (row H l m))) k.confirmed
       ∙ pick_but (eqb m n) (is_confirmed (row H l m))
 
@@ -182,67 +194,85 @@ module _ {l : List ℕ} {R H n : ℕ} (s : SoundAt l R H) (lt : n < used l) {c :
   unfolding counts_by
   counts_own x = sym (and_stops _ _ but_own)
 
-  held_but : (h m : ℕ) → h < H → m ≢ n → m ≢ R → held_in H (row H l m) c (start (row H l n)) (granted H (row H l n)) m h ≡ held_annulling H l n h m
+  held_but : (h m : ℕ) → h < H → m ≢ n → held_in H (row H l m) c m h ≡ held_annulling H l n h m
   unfolding held_in held_annulling
-  held_but h m hlt mn ne =
+  held_but h m hlt mn =
       let a : ℕ = word_at (row H l m) (hour_at H available_part h) in
       let y : ℕ = standing (start (row H l n)) (granted H (row H l n)) h in
       let p : ℕ = related_row H l n in
-      ap (λ (b : Bool). held a y b c.holds (eqb m c.less) (eqb m c.more)) (ap (λ (j : ℕ). eqb m j) k.own ∙ ne_eqb m n mn)
-      ∙ ap (λ (b : Bool). pick b (a - y) (pick (eqb m c.more) (a + y) a)) (ap (λ (j : ℕ). eqb m j) k.less ∙ ne_eqb m R ne)
-      ∙ ap (λ (b : Bool). pick b (a + y) a) (ap (λ (j : ℕ). eqb m j) k.more ∙ picked_not (original (reqtype (row H l n))) p ne)
+      ap (λ (z : ℕ). held a z (is_at c.row m) c.holds (is_at c.less m) (is_at c.more m)) (moved_as c k.start k.given h)
+      ∙ ap (λ (b : Bool). held a y b c.holds (is_at c.less m) (is_at c.more m)) (ap (λ (j : Option ℕ). is_at j m) k.own ∙ ne_eqb m n mn)
+      ∙ ap (λ (j : Option ℕ). pick (is_at j m) (a - y) (pick (is_at c.more m) (a + y) a)) k.less
+      ∙ ap (λ (b : Bool). pick b (a + y) a) (ap (λ (j : Option ℕ). is_at j m) k.more ∙ picked_not (original (reqtype (row H l n))) p m)
       ∙ ap (λ (v : ℕ). pick (not (original (reqtype (row H l n))) && eqb m p) (a + v) a) (sym (hour_standing (spanned s lt) granted_part (lit< tt) (λ j jlt z. (hours_of_lem s lt).outside granted_part j (lit< tt) jlt z) h hlt))
 
-  pub use_annulling_lem : (x h : ℕ) → h < H → use_by H l c (start (row H l n)) (granted H (row H l n)) x h ≡ use_annulling H l n x h
+  pub use_annulling_lem : (x h : ℕ) → h < H → use_by H l c x h ≡ use_annulling H l n x h
   unfolding use_by use_annulling added_by
-  use_annulling_lem x h hlt = sum_cong (used l) _ _ (λ m mlt. ap (λ (b : Bool). pick b (held_in H (row H l m) c (start (row H l n)) (granted H (row H l n)) m h) 0) (counts_cong H l (confirmed_after H l c) (confirmed_but H l n) after_annulling x m) ∙ go m mlt (ℕ_discrete m n))
+  use_annulling_lem x h hlt = sum_cong (used l) _ _ (λ m mlt. ap (λ (b : Bool). pick b (held_in H (row H l m) c m h) 0) (counts_cong H l (confirmed_after H l c) (confirmed_but H l n) after_annulling x m) ∙ go m mlt (ℕ_discrete m n))
     where
-      go : (m : ℕ) → m < used l → Dec (m ≡ n) → pick (counts_by H l (confirmed_but H l n) x m) (held_in H (row H l m) c (start (row H l n)) (granted H (row H l n)) m h) 0 ≡ pick (counts_by H l (confirmed_but H l n) x m) (held_annulling H l n h m) 0
+      go : (m : ℕ) → m < used l → Dec (m ≡ n) → pick (counts_by H l (confirmed_but H l n) x m) (held_in H (row H l m) c m h) 0 ≡ pick (counts_by H l (confirmed_but H l n) x m) (held_annulling H l n h m) 0
       go m mlt (yes e) =
           let z : counts_by H l (confirmed_but H l n) x m ≡ false = ap (λ (j : ℕ). counts_by H l (confirmed_but H l n) x j) e ∙ counts_own x in
-          ap (λ (b : Bool). pick b (held_in H (row H l m) c (start (row H l n)) (granted H (row H l n)) m h) 0) z ∙ sym (ap (λ (b : Bool). pick b (held_annulling H l n h m) 0) z)
-      go m mlt (no ne) = ap (λ (v : ℕ). pick (counts_by H l (confirmed_but H l n) x m) v 0) (held_but h m hlt ne (λ e. omega (arith, e, mlt, used_rows_lem s lt)))
+          ap (λ (b : Bool). pick b (held_in H (row H l m) c m h) 0) z ∙ sym (ap (λ (b : Bool). pick b (held_annulling H l n h m) 0) z)
+      go m mlt (no ne) = ap (λ (v : ℕ). pick (counts_by H l (confirmed_but H l n) x m) v 0) (held_but h m hlt ne)
 
--- ---- no change: the row past the used ones is not CONFIRMED
-module _ {l : List ℕ} {R H : ℕ} (s : SoundAt l R H) {c : Change} (k : Unchanged R c) where
-  no_row : used l ≤ R
-  no_row = omega (arith, s.sound.head.used, s.rows)
-
-  unconfirmed : is_confirmed (row H l R) ≡ false
-  unfolding is_confirmed
-  unconfirmed = ne_eqb (get_or (row H l R) 1 0) CONFIRMED (λ e. omega (arith, e, subst (λ (j : ℕ). get_or (row j l R) 1 0 ≡ 0) (sym s.hours) (s.sound.unused R no_row 1)))
-
+-- ---- no change
+module _ {l : List ℕ} {R H : ℕ} (s : SoundAt l R H) {c : Change} (k : Unchanged c) where
   after_nothing : (m : ℕ) → confirmed_after H l c m ≡ is_confirmed (row H l m)
   unfolding confirmed_after
-  after_nothing m =
-      ap (λ (j : ℕ). pick (eqb m j) c.confirmed (is_confirmed (row H l m))) k.own
-      ∙ ap (λ (b : Bool). pick (eqb m R) b (is_confirmed (row H l m))) k.confirmed
-      ∙ go (ℕ_discrete m R)
-    where
-      go : Dec (m ≡ R) → pick (eqb m R) false (is_confirmed (row H l m)) ≡ is_confirmed (row H l m)
-      go (yes e) = ap (λ (b : Bool). pick b false (is_confirmed (row H l m))) (eq-eqb m R e) ∙ sym (ap (λ (j : ℕ). is_confirmed (row H l j)) e ∙ unconfirmed)
-      go (no ne) = ap (λ (b : Bool). pick b false (is_confirmed (row H l m))) (ne_eqb m R ne)
+  after_nothing m = ap (λ (j : Option ℕ). pick (is_at j m) c.confirmed (is_confirmed (row H l m))) k.own
 
-  held_now : (st : ℕ) (mw : List ℕ) (h m : ℕ) → m ≢ R → held_in H (row H l m) c st mw m h ≡ word_at (row H l m) (hour_at H available_part h)
+  held_now : (h m : ℕ) → held_in H (row H l m) c m h ≡ word_at (row H l m) (hour_at H available_part h)
   unfolding held_in
-  held_now st mw h m ne =
+  held_now h m =
       let a : ℕ = word_at (row H l m) (hour_at H available_part h) in
-      let y : ℕ = standing st mw h in
-      ap (λ (b : Bool). held a y b c.holds (eqb m c.less) (eqb m c.more)) (ap (λ (j : ℕ). eqb m j) k.own ∙ ne_eqb m R ne)
-      ∙ ap (λ (b : Bool). pick b (a - y) (pick (eqb m c.more) (a + y) a)) (ap (λ (j : ℕ). eqb m j) k.less ∙ ne_eqb m R ne)
-      ∙ ap (λ (b : Bool). pick b (a + y) a) (ap (λ (j : ℕ). eqb m j) k.more ∙ ne_eqb m R ne)
+      ap (λ (j : Option ℕ). held a (moved c h) (is_at j m) c.holds (is_at c.less m) (is_at c.more m)) k.own
+      ∙ ap (λ (j : Option ℕ). pick (is_at j m) (a - moved c h) (pick (is_at c.more m) (a + moved c h) a)) k.less
+      ∙ ap (λ (j : Option ℕ). pick (is_at j m) (a + moved c h) a) k.more
 
-  pub use_now : (st : ℕ) (mw : List ℕ) (x h : ℕ) → use_by H l c st mw x h ≡ use_of H l x h
+  pub use_now : (x h : ℕ) → use_by H l c x h ≡ use_of H l x h
   unfolding use_by added_by use_of counts_on holds_on counts_by
-  use_now st mw x h =
+  use_now x h =
       sum_cong (used l) _ _ (λ m lt.
-      ap (λ (b : Bool). pick b (held_in H (row H l m) c st mw m h) 0) (counts_cong H l (confirmed_after H l c) (λ j. is_confirmed (row H l j)) after_nothing x m)
-      ∙ ap (λ (v : ℕ). pick (counts_by H l (λ j. is_confirmed (row H l j)) x m) v 0) (held_now st mw h m (λ e. omega (arith, e, lt, no_row))))
+      ap (λ (b : Bool). pick b (held_in H (row H l m) c m h) 0) (counts_cong H l (confirmed_after H l c) (λ j. is_confirmed (row H l j)) after_nothing x m)
+      ∙ ap (λ (v : ℕ). pick (counts_by H l (λ j. is_confirmed (row H l j)) x m) v 0) (held_now h m))
 
-  pub unchanged_fits : (st : ℕ) (mw : List ℕ) → st + length mw ≤ H → within most_megawatts mw ≡ true → Changing l R H c st mw
-  unchanged_fits st mw fits most = record { sound = s; fits = fits; most = most; drawn = λ less h hlt. absurd (omega (arith, less, k.less, no_row)) }
+  pub unchanged_fits : c.start + length c.mw.now ≤ H → within most_megawatts c.mw.now ≡ true → Changing l R H c
+  unchanged_fits fits most = record { sound = s; fits = fits; most = most; drawn = λ m less _ h hlt. absurd (let z : None ≡ Some m = sym k.less ∙ less in cc) }
 
--- an original is no relinquish record
-pub original_not : (t : ℕ) → original t ≡ true → eqb t RELINQUISH ≡ false
-unfolding original
-original_not t e = ne_eqb t RELINQUISH (λ z. omega (arith, z, range 1 t 2 e))
+-- ---- the row that row n is related to, as the functions find it
+module _ (H : ℕ) (l : List ℕ) (n : ℕ) where
+  by_type : {o : Bool} → original (reqtype (row H l n)) ≡ o → above H l n ≡ pick o None (Some (related_row H l n))
+  by_type e = ap (λ (b : Bool). pick b None (Some (related_row H l n))) e
+
+  pub above_some : {k : ℕ} → above H l n ≡ Some k → (original (reqtype (row H l n)) ≡ false) × (k ≡ related_row H l n)
+  above_some {k} e = go (original (reqtype (row H l n))) refl
+    where
+      go : (o : Bool) → original (reqtype (row H l n)) ≡ o → (original (reqtype (row H l n)) ≡ false) × (k ≡ related_row H l n)
+      go true z = let q : None ≡ Some k = sym (by_type z) ∙ e in absurd (cc)
+      go false z = let q : Some (related_row H l n) ≡ Some k = sym (by_type z) ∙ e in (z, cc)
+
+  pub above_none : above H l n ≡ None → original (reqtype (row H l n)) ≡ true
+  above_none e = go (original (reqtype (row H l n))) refl
+    where
+      go : (o : Bool) → original (reqtype (row H l n)) ≡ o → original (reqtype (row H l n)) ≡ true
+      go true z = z
+      go false z = let q : Some (related_row H l n) ≡ None = sym (by_type z) ∙ e in absurd (cc)
+
+pub above_placed : {l : List ℕ} {R H n : ℕ} → Placed l R H n → {k : ℕ} → above H l n ≡ Some k → Placed l R H k
+above_placed {l} {R} {H} {n} p e =
+    let a = above_some H l n e in
+    subst (λ (j : ℕ). Placed l R H j) (sym a.1) (related_placed p (type_three p a.0))
+
+-- the redirect that a relinquish record is related to has a row above it
+module _ {l : List ℕ} {R H n : ℕ} (p : Placed l R H n) (e : reqtype (row H l n) ≡ RELINQUISH) where
+  three : 3 ≤ reqtype (row H l n)
+  three = omega (arith, e)
+
+  pub redirect_placed : Placed l R H (related_row H l n)
+  redirect_placed = related_placed p three
+
+  pub above_redirect : {k : ℕ} → k ≡ related_row H l n → above H l k ≡ Some (related_row H l (related_row H l n))
+  above_redirect {k} is =
+      ap (λ (j : ℕ). above H l j) is
+      ∙ by_type H l (related_row H l n) (derived_type _ (redirect_three p e))

@@ -16,15 +16,15 @@ use Rattle.rules.proofs.After.{counts_by}
 use Rattle.megawatts.specs.Placed.{Placed}
 use Rattle.megawatts.proofs.Laws.{related_in}
 use Rattle.paths.specs.declared.Change.{Change}
-use Rattle.paths.specs.Changes.{confirmed_after}
+use Rattle.paths.specs.Changes.{is_at, confirmed_after}
 
 -- by the status that was read
-pub after_is : (H : ℕ) (l : List ℕ) (c : Change) (m : ℕ) {s : ℕ} {b : Bool} → s ≡ status (row H l m) → b ≡ pick (eqb m c.row) c.confirmed (eqb s CONFIRMED) → b ≡ confirmed_after H l c m
+pub after_is : (H : ℕ) (l : List ℕ) (c : Change) (m : ℕ) {s : ℕ} {b : Bool} → s ≡ status (row H l m) → b ≡ pick (is_at c.row m) c.confirmed (eqb s CONFIRMED) → b ≡ confirmed_after H l c m
 unfolding confirmed_after is_confirmed
-after_is H l c m e d = d ∙ ap (λ (k : ℕ). pick (eqb m c.row) c.confirmed (eqb k CONFIRMED)) e
+after_is H l c m e d = d ∙ ap (λ (k : ℕ). pick (is_at c.row m) c.confirmed (eqb k CONFIRMED)) e
 
 -- row m, which is r
-module _ (H : ℕ) (l : List ℕ) (c : Change) (x m : ℕ) (r : List ℕ) (is : r ≡ row H l m) {b : Bool} (e : b ≡ pick (eqb m c.row) c.confirmed (eqb (status r) CONFIRMED)) where
+module _ (H : ℕ) (l : List ℕ) (c : Change) (x m : ℕ) (r : List ℕ) (is : r ≡ row H l m) {b : Bool} (e : b ≡ pick (is_at c.row m) c.confirmed (eqb (status r) CONFIRMED)) where
   after : {d : Bool} → b ≡ d → confirmed_after H l c m ≡ d
   after f = sym (after_is H l c m (ap (λ (v : List ℕ). status v) is) e) ∙ f
 

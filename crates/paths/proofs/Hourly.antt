@@ -1,14 +1,17 @@
 -- Sums of a walk, hour by hour: what is added or taken off from an hour on, a row's available, what a row holds after a
 -- change.
 use mathlib.Core.Path.{◌≡◌, refl, sym, ap, ◌∙◌}
-use mathlib.Core.Logic.{◌≢◌, ⊎_elim}
+use mathlib.Core.Logic.{⊎_elim}
 use mathlib.Core.Bool.{Bool, true, false}
 use mathlib.Core.List.{List}
+use Rattle.std.specs.Prelude.{Option, None, Some}
 use Prim.Native.Nat.{ℕ, ◌+◌, ◌-◌, ◌≤◌, ◌<◌}
 use native.Mathlib.Omega.{arith}
 use lib.Dec.{eqb, leb, lit<}
 use lib.ListN.{length, get_or}
-use borrow.Author.Tests.{eq-eqb, ne_eqb, le-leb}
+use borrow.Author.Tests.{eq-eqb, eqb-true, ne_eqb, le-leb}
+use Rattle.std.proofs.lemmas.Bool.Decides.{eqb_tells}
+use Rattle.std.specs.Option.{option_eq}
 use Rattle.words.specs.Lists.{word_at, part, splice, zip2, roomy, covered, most_word}
 use Rattle.words.proofs.Laws.{lt_or_le, all_below_lem, within_at, part_length, part_at, zip_length, build_at, splice_length, splice_before, splice_in, splice_after}
 use Rattle.rules.specs.Pick.{pick}
@@ -20,7 +23,7 @@ use Rattle.rules.proofs.Spans.{span_length, span_at, hour_standing}
 use Rattle.rules.proofs.Spans as spans
 use Rattle.layout.specs.Bounds.{Spanned}
 use Rattle.paths.specs.declared.Change.{Change}
-use Rattle.paths.specs.Changes.{held_in, RowChanging, Sums, Adding, Taking, Adds, Takes}
+use Rattle.paths.specs.Changes.{is_at, moved, held_in, RowChanging, Sums, Adding, Taking, Adds, Takes}
 
 -- ---- v from hour s on
 zip_at : (f : ℕ → ℕ → ℕ) (a b : List ℕ) (k : ℕ) → k < length a → get_or (zip2 f a b) k 0 ≡ f (get_or a k 0) (get_or b k 0)
@@ -127,66 +130,82 @@ module _ {H : ℕ} {r : List ℕ} (p : Spanned H r) (w : SoundHours H r) where
         ap (λ (x : List ℕ). standing (start r) x h) is
         ∙ sym (hour_standing spanned available_part (lit< tt) (λ k klt z. w.outside available_part k (lit< tt) klt z) h (omega (arith, lt, o.long)))) a
 
+-- ---- a row that may be none: by the test that was made
+eq_at : (o : Option ℕ) (m : ℕ) → option_eq eqb o (Some m) ≡ is_at o m
+eq_at None m = refl
+eq_at (Some n) m =
+    ⊎_elim
+    (λ w. w.0 ∙ sym (eq-eqb m n (sym w.1)))
+    (λ w. w.0 ∙ sym (ne_eqb m n (λ e. w.1 (sym e))))
+    (eqb_tells n m)
+
+pub told_at : (o : Option ℕ) (m : ℕ) {b d : Bool} → b ≡ option_eq eqb o (Some m) → b ≡ d → is_at o m ≡ d
+told_at o m e f = sym (eq_at o m) ∙ sym e ∙ f
+
+pub some_at : (o : Option ℕ) (m : ℕ) → is_at o m ≡ true → o ≡ Some m
+some_at None m e = absurd (cc)
+some_at (Some n) m e = ap (λ (k : ℕ). Some k) (sym (eqb-true m n e))
+
 -- ---- what row m, which is r, holds after a change
-module _ (H : ℕ) (r : List ℕ) (c : Change) (s : ℕ) (mw : List ℕ) (m : ℕ) where
+module _ (H : ℕ) (r : List ℕ) (c : Change) (m : ℕ) where
   abbrev a : ℕ → ℕ
   a h = word_at r (hour_at H available_part h)
 
   abbrev y : ℕ → ℕ
-  y h = standing s mw h
+  y h = moved c h
 
   abbrev held : Bool → Bool → Bool → Bool → ℕ → ℕ
   held own holds less more h = pick own (pick holds (y h) 0) (pick less (a h - y h) (pick more (a h + y h) (a h)))
 
-  pub held_own : m ≡ c.row → c.holds ≡ true → (h : ℕ) → y h ≡ held_in H r c s mw m h
+  pub held_own : is_at c.row m ≡ true → c.holds ≡ true → (h : ℕ) → moved c h ≡ held_in H r c m h
   unfolding held_in
   held_own e f h =
-      sym (ap (λ (b : Bool). held b c.holds (eqb m c.less) (eqb m c.more) h) (eq-eqb _ _ e) ∙ ap (λ (b : Bool). pick b (y h) 0) f)
+      sym (ap (λ (b : Bool). held b c.holds (is_at c.less m) (is_at c.more m) h) e ∙ ap (λ (b : Bool). pick b (y h) 0) f)
 
-  pub held_nothing : m ≡ c.row → c.holds ≡ false → (h : ℕ) → held_in H r c s mw m h ≡ 0
+  pub held_nothing : is_at c.row m ≡ true → c.holds ≡ false → (h : ℕ) → held_in H r c m h ≡ 0
   unfolding held_in
   held_nothing e f h =
-      ap (λ (b : Bool). held b c.holds (eqb m c.less) (eqb m c.more) h) (eq-eqb _ _ e) ∙ ap (λ (b : Bool). pick b (y h) 0) f
+      ap (λ (b : Bool). held b c.holds (is_at c.less m) (is_at c.more m) h) e ∙ ap (λ (b : Bool). pick b (y h) 0) f
 
-  module _ (n : m ≢ c.row) where
-    pub held_less : m ≡ c.less → (h : ℕ) → a h - y h ≡ held_in H r c s mw m h
+  module _ (n : is_at c.row m ≡ false) where
+    pub held_less : is_at c.less m ≡ true → (h : ℕ) → a h - y h ≡ held_in H r c m h
     unfolding held_in
     held_less e h =
-        sym (ap (λ (b : Bool). held b c.holds (eqb m c.less) (eqb m c.more) h) (ne_eqb _ _ n) ∙ ap (λ (b : Bool). pick b (a h - y h) (pick (eqb m c.more) (a h + y h) (a h))) (eq-eqb _ _ e))
+        sym (ap (λ (b : Bool). held b c.holds (is_at c.less m) (is_at c.more m) h) n ∙ ap (λ (b : Bool). pick b (a h - y h) (pick (is_at c.more m) (a h + y h) (a h))) e)
 
-    module _ (k : m ≢ c.less) where
-      past : (h : ℕ) → pick (eqb m c.more) (a h + y h) (a h) ≡ held_in H r c s mw m h
+    module _ (k : is_at c.less m ≡ false) where
+      past : (h : ℕ) → pick (is_at c.more m) (a h + y h) (a h) ≡ held_in H r c m h
       unfolding held_in
       past h =
-          sym (ap (λ (b : Bool). held b c.holds (eqb m c.less) (eqb m c.more) h) (ne_eqb _ _ n) ∙ ap (λ (b : Bool). pick b (a h - y h) (pick (eqb m c.more) (a h + y h) (a h))) (ne_eqb _ _ k))
+          sym (ap (λ (b : Bool). held b c.holds (is_at c.less m) (is_at c.more m) h) n ∙ ap (λ (b : Bool). pick b (a h - y h) (pick (is_at c.more m) (a h + y h) (a h))) k)
 
-      pub held_more : m ≡ c.more → (h : ℕ) → a h + y h ≡ held_in H r c s mw m h
-      held_more e h = sym (ap (λ (b : Bool). pick b (a h + y h) (a h)) (eq-eqb _ _ e)) ∙ past h
+      pub held_more : is_at c.more m ≡ true → (h : ℕ) → a h + y h ≡ held_in H r c m h
+      held_more e h = sym (ap (λ (b : Bool). pick b (a h + y h) (a h)) e) ∙ past h
 
-      pub held_same : m ≢ c.more → (h : ℕ) → a h ≡ held_in H r c s mw m h
-      held_same e h = sym (ap (λ (b : Bool). pick b (a h + y h) (a h)) (ne_eqb _ _ e)) ∙ past h
+      pub held_same : is_at c.more m ≡ false → (h : ℕ) → a h ≡ held_in H r c m h
+      held_same e h = sym (ap (λ (b : Bool). pick b (a h + y h) (a h)) e) ∙ past h
 
 -- ---- and what the functions that add it ask
-module _ {H : ℕ} {r : List ℕ} {c : Change} {s : ℕ} {mw : List ℕ} {m : ℕ} (g : RowChanging H r c s mw m) {sums : List ℕ} (o : Sums H sums) where
-  pub own_room : Adding s mw sums
+module _ {H : ℕ} {r : List ℕ} {c : Change} {m : ℕ} (g : RowChanging H r c m) {sums : List ℕ} (o : Sums H sums) where
+  pub own_room : Adding c.start c.mw.now sums
   own_room = record {
     fits = omega (arith, g.fits, o.long);
-    room = λ k lt. omega (arith, o.most (s + k) (omega (arith, g.fits, lt)), within_at most_megawatts mw g.most k lt);
+    room = λ k lt. omega (arith, o.most (c.start + k) (omega (arith, g.fits, lt)), within_at most_megawatts c.mw.now g.most k lt);
   }
 
   module _ {next : List ℕ} (d : Adds (λ h. word_at r (hour_at H available_part h)) sums next) where
-    pub more_room : Adding s mw next
+    pub more_room : Adding c.start c.mw.now next
     more_room = record {
       fits = omega (arith, g.fits, o.long, d.long);
       room = λ k lt.
-          let i : s + k < H = omega (arith, g.fits, lt) in
-          omega (arith, o.most (s + k) i, d.each (s + k) (omega (arith, i, o.long)), g.words.most available_part (s + k) (lit< tt) i, within_at most_megawatts mw g.most k lt);
+          let i : c.start + k < H = omega (arith, g.fits, lt) in
+          omega (arith, o.most (c.start + k) i, d.each (c.start + k) (omega (arith, i, o.long)), g.words.most available_part (c.start + k) (lit< tt) i, within_at most_megawatts c.mw.now g.most k lt);
     }
 
-    pub less_enough : m ≡ c.less → Taking s mw next
+    pub less_enough : is_at c.less m ≡ true → Taking c.start c.mw.now next
     less_enough e = record {
       fits = omega (arith, g.fits, o.long, d.long);
       enough = λ k lt.
-          let i : s + k < H = omega (arith, g.fits, lt) in
-          omega (arith, d.each (s + k) (omega (arith, i, o.long)), g.drawn e (s + k) i, standing_in s mw k refl);
+          let i : c.start + k < H = omega (arith, g.fits, lt) in
+          omega (arith, d.each (c.start + k) (omega (arith, i, o.long)), g.drawn (some_at c.less m e) (c.start + k) i, standing_in c.start c.mw.now k refl);
     }

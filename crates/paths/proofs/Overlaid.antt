@@ -10,8 +10,8 @@ use lib.Seq.{get_or-take, get_or-drop, length-take-le}
 use Rattle.words.specs.Lists.{part, splice, all_below, covered}
 use Rattle.words.proofs.Laws.{all_cong, part_length, splice_length, splice_before, splice_in, splice_after, splice_part}
 use Rattle.rules.specs.Paths.{posting_at, posted_in}
-use Rattle.paths.specs.Exceeding.{Postings, PostingAt}
-use Rattle.paths.proofs.Posted.{posting_in, posting_part}
+use Rattle.paths.specs.Exceeding.{Postings, Path}
+use Rattle.paths.proofs.Posted.{posted_fits}
 
 all_split : (a b : ℕ) (p : ℕ → Bool) → all_below (a + b) p ≡ (all_below a p && all_below b (λ k. p (a + k)))
 unfolding all_below
@@ -79,18 +79,17 @@ module _ (sums own v : List ℕ) (s : ℕ) (long : length own ≡ length sums) (
       ∙ ap (λ (b : Bool). all_below s P && b) (all_split n m (λ k. P (s + k))))
 
 -- the path's part of the postings with the profile is what is then posted for it
-module _ {H : ℕ} {ps : List ℕ} {x a : ℕ} (p : Postings H ps) (at : PostingAt H x 0 a) (s : ℕ) (v : List ℕ) (fits : s + length v ≤ H) where
-  pub overlaid_each : (k : ℕ) → k < H → get_or (splice (take (a + H - a) (drop a ps)) s v) k 0 ≡ posted_in H (splice ps (posting_at H x s) v) x k
+module _ {H : ℕ} {ps : List ℕ} {x : ℕ} (p : Postings H ps) (path : Path x) (s : ℕ) (v : List ℕ) (fits : s + length v ≤ H) where
+  pub overlaid_each : (k : ℕ) → k < H → get_or (splice (part ps (posting_at H x 0) H) s v) k 0 ≡ posted_in H (splice ps (posting_at H x s) v) x k
   unfolding posted_in posting_at
   overlaid_each k lt =
       let b : ℕ = (x - 1) * H + 0 in
-      let g : b + H ≤ length ps = omega (arith, posting_in p at, at.is) in
+      let g : b + H ≤ length ps = posted_fits p path in
       let own : List ℕ = part ps ((x - 1) * H + 0) H in
       let w : length (splice own s v) ≡ H = splice_length own s v (omega (arith, fits, part_length ps b H g)) ∙ part_length ps b H g in
       let i : (x - 1) * H + 0 + k ≡ (x - 1) * H + k = omega arith in
       let j : (x - 1) * H + 0 + s ≡ (x - 1) * H + s = omega arith in
-      ap (λ (z : List ℕ). get_or (splice z s v) k 0) (posting_part p at)
-      ∙ sym (splice_in ps b (splice own s v) (omega (arith, g, w)) k (omega (arith, lt, w)))
+      sym (splice_in ps b (splice own s v) (omega (arith, g, w)) k (omega (arith, lt, w)))
       ∙ ap (λ (z : List ℕ). get_or z (b + k) 0) (splice_part ps b H s v g fits)
       ∙ ap (λ (q : ℕ). get_or (splice ps q v) (b + k) 0) j
       ∙ ap (λ (q : ℕ). get_or (splice ps ((x - 1) * H + s) v) q 0) i

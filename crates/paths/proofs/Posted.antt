@@ -9,7 +9,7 @@ use lib.Dec.{leb}
 use lib.ListN.{length, get_or, take, drop}
 use lib.Seq.{ext_get_or, get_or-take, length-take-le}
 use Rattle.words.specs.Lists.{part, all_below, noughts, zeros, covered}
-use Rattle.words.proofs.Laws.{all_cong, zeros_at, noughts_length, noughts_at, part_at, lent}
+use Rattle.words.proofs.Laws.{all_cong, zeros_at, noughts_length, noughts_at, part_length, part_at, lent}
 use Rattle.rules.specs.Numbers.{most_path}
 use Rattle.rules.specs.Layout.{row, reqtype, path, related_row}
 use Rattle.rules.specs.Sound.{original}
@@ -42,7 +42,25 @@ exceeds_by H ps uses x {sums} own s is =
     ∙ all_cong (λ k. leb (get_or sums k 0) (get_or own k 0)) (λ k. leb (uses x k) (posted_in H ps x k)) H
     (λ k lt. ap (λ (u : ℕ). leb u (get_or own k 0)) (s.each k lt) ∙ ap (λ (v : ℕ). leb (uses x k) v) (is k lt)))
 
--- the path's part of the postings, which starts at a
+-- the path's part of the postings
+part_each : (H : ℕ) (ps : List ℕ) (x : ℕ) → posting_at H x 0 + H ≤ length ps → (k : ℕ) → k < H → get_or (part ps (posting_at H x 0) H) k 0 ≡ posted_in H ps x k
+unfolding posted_in posting_at
+part_each H ps x fits k lt =
+    let e : (x - 1) * H + 0 + k ≡ (x - 1) * H + k = omega arith in
+    part_at ps ((x - 1) * H + 0) H fits k lt ∙ ap (λ (j : ℕ). get_or ps j 0) e
+
+module _ {H : ℕ} {ps : List ℕ} {x : ℕ} (p : Postings H ps) (path : Path x) where
+  pub posted_fits : posting_at H x 0 + H ≤ length ps
+  unfolding posting_at
+  posted_fits = omega (arith, path_fits H path, p.long)
+
+  pub posted_long : length (part ps (posting_at H x 0) H) ≡ H
+  posted_long = part_length ps (posting_at H x 0) H posted_fits
+
+  pub posted_each : (k : ℕ) → k < H → get_or (part ps (posting_at H x 0) H) k 0 ≡ posted_in H ps x k
+  posted_each = part_each H ps x posted_fits
+
+-- as it is lent, from a on
 module _ {H : ℕ} {ps : List ℕ} {x a : ℕ} (p : Postings H ps) (at : PostingAt H x 0 a) where
   pub posting_in : a + H ≤ length ps
   posting_in = omega (arith, at.fits, p.long)
@@ -51,12 +69,7 @@ module _ {H : ℕ} {ps : List ℕ} {x a : ℕ} (p : Postings H ps) (at : Posting
   posting_part = lent ps a (posting_at H x 0) H at.is posting_in
 
   pub posting_each : (k : ℕ) → k < H → get_or (take (a + H - a) (drop a ps)) k 0 ≡ posted_in H ps x k
-  unfolding posted_in posting_at
-  posting_each k lt =
-      let e : (x - 1) * H + 0 + k ≡ (x - 1) * H + k = omega arith in
-      ap (λ (v : List ℕ). get_or v k 0) posting_part
-      ∙ part_at ps ((x - 1) * H + 0) H (omega (arith, posting_in, at.is)) k lt
-      ∙ ap (λ (j : ℕ). get_or ps j 0) e
+  posting_each k lt = ap (λ (v : List ℕ). get_or v k 0) posting_part ∙ part_each H ps x (omega (arith, posting_in, at.is)) k lt
 
 -- ---- the path of row n, and that of its related row, a: way by way
 module _ (H : ℕ) (l : List ℕ) (n : ℕ) (ps : List ℕ) (uses : ℕ → ℕ → ℕ) {own : ℕ} (is : own ≡ path (row H l n)) {b : Bool} (e : b ≡ exceeds H ps uses own) where

@@ -11,10 +11,12 @@ ghost use Rattle.paths.specs.Changes.{held_in, added_by, use_by, Changing, RowCh
 
 use crate::Change;
 use crate::counting::counts;
-use layout::numbers::{AVAILABLE_PART, PROFILES, ROW_WORDS, START, STOP, USED};
-use layout::rows::{hours_at, row_at};
+use layout::numbers::{START, STOP, USED};
+use layout::profile::Profile;
+use layout::rows::{hours, row};
+use layout::size::Size;
 
-// v is added from hour start on; it is taken off.
+// v is added from hour start on; it is taken off. Each is one call: one function generic in it would be no plainer.
 
 fn add_at(sums: &mut [u32], start: usize, v: &[u32])
     requires { Adding start v.now sums.old }
@@ -31,99 +33,81 @@ fn less_at(sums: &mut [u32], start: usize, v: &[u32])
 }
 
 // Available of the row r is added, in its span: it is 0 outside.
-fn add_available(sums: &mut [u32], r: &[u32], hours: usize)
-    requires spanned { Spanned hours r.now }
-    requires sound_hours { SoundHours hours r.now }
-    requires sums { Sums hours sums.old }
-    ensures { Adds (λ h. word_at r.now (hour_at hours available_part h)) sums.old sums.new }
+fn add_available(sums: &mut [u32], r: &[u32], size: Size)
+    requires spanned { Spanned size.hours r.now }
+    requires sound_hours { SoundHours size.hours r.now }
+    requires sums { Sums size.hours sums.old }
+    ensures { Adds (λ h. word_at r.now (hour_at size.hours available_part h)) sums.old sums.new }
 {
     let start = r[START] as usize;
     let count = r[STOP] as usize - start;
-    let from = hours_at(hours, AVAILABLE_PART, start, count);
-    add_at(sums, start, &r[from..from + count]);
+    add_at(
+        sums,
+        start,
+        hours(r, size, Profile::Available, start, count),
+    );
 }
 
 // What row m, which is r, holds after the change is added.
-fn add_row(sums: &mut [u32], r: &[u32], hours: usize, c: Change, m: usize, start: usize, mw: &[u32])
-    requires row_changing { RowChanging hours r.now c start mw.now m }
-    requires sums { Sums hours sums.old }
-    ensures { Adds (λ h. held_in hours r.now c start mw.now m h) sums.old sums.new }
+fn add_row(sums: &mut [u32], r: &[u32], size: Size, c: Change, m: usize)
+    requires row_changing { RowChanging size.hours r.now c m }
+    requires sums { Sums size.hours sums.old }
+    ensures { Adds (λ h. held_in size.hours r.now c.entry m h) sums.old sums.new }
 {
-    if m == c.row {
+    if c.row == Some(m) {
         if c.holds {
-            add_at(sums, start, mw);
+            add_at(sums, c.start, c.mw);
         }
         return;
     }
-    add_available(sums, r, hours);
-    if m == c.less {
-        less_at(sums, start, mw);
+    add_available(sums, r, size);
+    if c.less == Some(m) {
+        less_at(sums, c.start, c.mw);
         return;
     }
-    if m == c.more {
-        add_at(sums, start, mw);
+    if c.more == Some(m) {
+        add_at(sums, c.start, c.mw);
     }
 }
 
 // The same, if it counts in the use of path x.
-fn add_counted(
-    sums: &mut [u32],
-    r: &[u32],
-    l: &[u32],
-    rows: usize,
-    hours: usize,
-    c: Change,
-    x: u32,
-    m: usize,
-    start: usize,
-    mw: &[u32],
-)
-    requires changing { Changing l.now rows hours c start mw.now }
+fn add_counted(sums: &mut [u32], r: &[u32], l: &[u32], size: Size, c: Change, x: u32, m: usize)
+    requires changing { Changing l.now size.rows size.hours c }
     requires m_bound { m < used_rows l.now }
-    requires r_value { r.now ≡ row hours l.now m }
-    requires sums { Sums hours sums.old }
-    ensures { Adds (λ h. added_by hours l.now c start mw.now x m h) sums.old sums.new }
+    requires r_value { r.now ≡ row size.hours l.now m }
+    requires sums { Sums size.hours sums.old }
+    ensures { Adds (λ h. added_by size.hours l.now c.entry x m h) sums.old sums.new }
 {
-    if counts(r, l, rows, hours, c, x, m) {
-        add_row(sums, r, hours, c, m, start, mw);
+    if counts(r, l, size, c, x, m) {
+        add_row(sums, r, size, c, m);
     }
 }
 
 // The walk: sums that were 0 are the use of path x after the change.
-pub fn add_rows(
-    sums: &mut [u32],
-    l: &[u32],
-    rows: usize,
-    hours: usize,
-    c: Change,
-    x: u32,
-    start: usize,
-    mw: &[u32],
-)
-    requires changing { Changing l.now rows hours c start mw.now }
-    requires sums_value { sums.old ≡ noughts hours }
-    ensures { Summed hours (λ h. use_by hours l.now c start mw.now x h) sums.new }
+pub fn add_rows(sums: &mut [u32], l: &[u32], size: Size, c: Change, x: u32)
+    requires changing { Changing l.now size.rows size.hours c }
+    requires sums_value { sums.old ≡ noughts size.hours }
+    ensures { Summed size.hours (λ h. use_by size.hours l.now c.entry x h) sums.new }
 {
-    let size = ROW_WORDS + PROFILES * hours;
-    let used = l[USED] as usize;
-    for m in 0..used {
-        let at = row_at(rows, hours, m);
-        add_counted(sums, &l[at..at + size], l, rows, hours, c, x, m, start, mw);
+    for m in 0..l[USED] as usize {
+        add_counted(sums, row(l, size, m), l, size, c, x, m);
     }
 }
 
 // Where nothing changes: sums that were 0 are the use of path x.
-pub fn add_use(sums: &mut [u32], l: &[u32], rows: usize, hours: usize, x: u32)
-    requires sound_at { SoundAt l.now rows hours }
-    requires sums_value { sums.old ≡ noughts hours }
-    ensures { Summed hours (λ h. use_of hours l.now x h) sums.new }
+pub fn add_use(sums: &mut [u32], l: &[u32], size: Size, x: u32)
+    requires sound_at { SoundAt l.now size.rows size.hours }
+    requires sums_value { sums.old ≡ noughts size.hours }
+    ensures { Summed size.hours (λ h. use_of size.hours l.now x h) sums.new }
 {
     let none = Change {
-        row: rows,
+        row: None,
         confirmed: false,
         holds: false,
-        less: rows,
-        more: rows,
+        less: None,
+        more: None,
+        start: 0,
+        mw: &[],
     };
-    add_rows(sums, l, rows, hours, none, x, 0, &l[..0]);
+    add_rows(sums, l, size, none, x);
 }

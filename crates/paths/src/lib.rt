@@ -7,13 +7,14 @@ pub mod exceeding;
 pub mod posting;
 
 // What an action would change: row is CONFIRMED or not, and then holds the megawatts or 0; the row less has given them,
-// the row more has been given them.
-// A number past the used rows stands for no row.
+// the row more has been given them. The megawatts stand from hour start on.
 #[derive(Clone, Copy)]
-pub struct Change {
-    pub row: usize,
+pub struct Change<'a> {
+    pub row: Option<usize>,
     pub confirmed: bool,
     pub holds: bool,
-    pub less: usize,
-    pub more: usize,
+    pub less: Option<usize>,
+    pub more: Option<usize>,
+    pub start: usize,
+    pub mw: &'a [u32],
 }

@@ -7,8 +7,9 @@ ghost use Rattle.layout.specs.SoundAt.{SoundAt};
 ghost use Rattle.paths.specs.Exceeding.{Postings, Path};
 
 use crate::adding::add_use;
-use crate::exceeding::posting_at;
+use crate::exceeding::posted;
 use layout::numbers::MOST_HOURS;
+use layout::size::Size;
 
 // The sums are at most own with the profile from hour start on.
 fn is_covered(sums: &[u32], own: &[u32], start: usize, profile: &[u32]) -> bool
@@ -21,53 +22,25 @@ fn is_covered(sums: &[u32], own: &[u32], start: usize, profile: &[u32]) -> bool
             & words::all_covered(&sums[stop..], &own[stop..]))
 }
 
-// The sums were 0.
-fn sums_exceed(
-    sums: &mut [u32],
-    l: &[u32],
-    postings: &[u32],
-    rows: usize,
-    hours: usize,
-    x: u32,
-    start: usize,
-    profile: &[u32],
-) -> bool
-    requires sound_at { SoundAt l.now rows hours }
-    requires sums_value { sums.old ≡ noughts hours }
-    requires postings { Postings hours postings.now }
-    requires path { Path x }
-    requires profile_bound { (start + length profile.now ≤ hours) × (within most_megawatts profile.now ≡ true) }
-    ensures { result ≡ over_posted hours l.now (splice postings.now (posting_at hours x start) profile.now) x }
-{
-    add_use(sums, l, rows, hours, x);
-    let from = posting_at(hours, x, 0);
-    !is_covered(&sums[..], &postings[from..from + hours], start, profile)
-}
-
+// As `exceeding` judges a change, against the postings with the profile. One function with the comparison as a closure
+// would have to speak of the sums in clauses longer than these bodies.
 pub fn exceeds_posting(
     l: &[u32],
     postings: &[u32],
-    rows: usize,
-    hours: usize,
+    size: Size,
     x: u32,
     start: usize,
     profile: &[u32],
 ) -> bool
-    requires sound_at { SoundAt l.now rows hours }
-    requires postings { Postings hours postings.now }
+    requires sound_at { SoundAt l.now size.rows size.hours }
+    requires postings { Postings size.hours postings.now }
     requires path { Path x }
-    requires profile_bound { (start + length profile.now ≤ hours) × (within most_megawatts profile.now ≡ true) }
-    ensures { result ≡ over_posted hours l.now (splice postings.now (posting_at hours x start) profile.now) x }
+    requires profile_bound { (start + length profile.now ≤ size.hours) × (within most_megawatts profile.now ≡ true) }
+    ensures { result ≡ over_posted size.hours l.now (splice postings.now (posting_at size.hours x start) profile.now) x }
 {
-    let mut sums = [0u32; MOST_HOURS as usize];
-    sums_exceed(
-        &mut sums[..hours],
-        l,
-        postings,
-        rows,
-        hours,
-        x,
-        start,
-        profile,
-    )
+    // No heap in the library: memory for the most hours.
+    let mut buffer = [0u32; MOST_HOURS as usize];
+    let sums = &mut buffer[..size.hours];
+    add_use(sums, l, size, x);
+    !is_covered(sums, posted(postings, size, x), start, profile)
 }

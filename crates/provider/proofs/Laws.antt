@@ -1,59 +1,50 @@
--- What the provider's actions rest on: the row that an action names, the row that is marked approved, and the last check.
+-- What the provider's actions rest on: the row that an action names, the row that is marked approved, the last check.
 use mathlib.Core.Path.{◌≡◌, refl, sym, ap, subst, ◌∙◌}
 use mathlib.Core.Logic.{◌≢◌, ◌⊎◌, ⊎_elim}
 use mathlib.Core.Bool.{Bool, true, false}
 use mathlib.Core.List.{List}
-use Prim.Native.Nat.{ℕ, ◌≤◌, ◌<◌}
+use Prim.Native.Nat.{ℕ, ◌+◌, ◌≤◌, ◌<◌}
 use native.Mathlib.Omega.{arith}
 use lib.Dec.{lit<}
 use lib.ListN.{length, set}
 use borrow.Author.Tests.{le-leb, ne_eqb}
 use Rattle.words.specs.Lists.{splice}
-use Rattle.rules.specs.Pick.{pick, ◌gives◌else◌}
+use Rattle.rules.specs.Pick.{pick}
 use Rattle.rules.specs.Numbers.{requested_part, granted_part, granted_given, approved, ACCEPTED, CR_ACCEPTED, RETRACTED, RELINQUISH}
-use Rattle.rules.specs.Layout.{rows, hours, used, row_base, row, on_row, reqtype, flags, flagged, has, raise, set_status, requested, granted, issued}
+use Rattle.rules.specs.Layout.{rows, hours, used, row_base, row, on_row, reqtype, span_hours, flags, flagged, has, raise, set_status, requested, granted, issued}
 use Rattle.rules.specs.Megawatts.{in_force, carries_over}
 use Rattle.rules.specs.Confirming.{confirm, short}
-use Rattle.rules.specs.Checks.{named, named_row, profile, no_reference, not_provider, waits_at}
+use Rattle.rules.specs.Checks.{named, named_row, profile, no_reference, waits_at}
 use Rattle.rules.specs.Approve.{approve_number, approve_after}
 use Rattle.rules.specs.Reduce.{reduce_number, reduce_after}
 use Rattle.rules.specs.Lapse.{lapse_number, lapse_after}
 use Rattle.rules.specs.Clock.{clock_after}
 use Rattle.rules.specs.declared.Action.{Action}
-use Rattle.rules.proofs.Picks.{hit, skip, skip_call, and_stops}
+use Rattle.rules.proofs.Picks.{hit, skip, skip_call, hit_by, choice, and_stops, and_goes, or_stops, or_goes}
 use Rattle.rules.proofs.Rows.{row_length}
-use Rattle.rules.proofs.Spans.{span_set, raise_approved}
+use Rattle.rules.proofs.Spans.{span_hours_lem, span_set, raise_approved}
 use Rattle.rules.proofs.SoundFacts.{SoundLedger}
 use Rattle.rules.proofs.Formed.{Formed, formed}
 use Rattle.rules.proofs.Placed as P
 use Rattle.rules.proofs.Turned.{Turned}
 use Rattle.rules.proofs.Unmoved.{Unmoved, unmoved_turned}
-use Rattle.rules.proofs.Passed.{approve_passed, reduce_passed, lapse_passed, confirm_passed, profile_length}
+use Rattle.rules.proofs.Passed.{approve_passed, reduce_passed, lapse_passed, confirm_passed, profile_passed, profile_length, PostPassed, words_length}
 use Rattle.rules.proofs.Kept.{Next, same_self, same_approved, next_own, fitting_force}
 use Rattle.rules.proofs.Before as B
 use Rattle.rules.proofs.Over.{over_confirming, over_reducing}
 use Rattle.rules.proofs.Over as O
 use Rattle.layout.specs.SoundAt.{SoundAt}
+use Rattle.layout.proofs.SoundAt.{head_fits}
 use Rattle.megawatts.specs.Placed.{Placed}
+use Rattle.paths.specs.Exceeding.{Postings, PostingAt}
+use Rattle.megawatts.proofs.Laws.{sized, in_rows, span_fits}
+use Rattle.megawatts.proofs.Named.{head_placed, issued_range, placed_at}
 use Rattle.provider.specs.Waiting.{Waiting}
 
 -- ---- a reference that was issued
 pub issued_known : (l : List ℕ) (a : Action) → (1 ≤ a.reference) × (a.reference ≤ used l) → no_reference l a ≡ false
 unfolding no_reference issued
 issued_known l a e = simp (le-leb 1 a.reference e.0, le-leb a.reference (used l) e.1)
-
--- neither 4 nor 3: the rest decides
-pub then_rest : {r q : Bool} (l : List ℕ) (a : Action) (v m : ℕ) → r ≡ no_reference l a → r ≡ false → q ≡ not_provider l a → q ≡ false → v ≡ m
-    → v ≡ (no_reference l a gives 4 else not_provider l a gives 3 else m)
-then_rest {r} {q} l a v m p e k f h = skip_call r (no_reference l a) v 4 _ p e (skip_call q (not_provider l a) v 3 m k f h)
-
--- what is said of row n is said of row m, which it is
-pub at_row : {b : Bool} {n m : ℕ} (H : ℕ) (l : List ℕ) (f : List ℕ → Bool) → n ≡ m → b ≡ f (row H l n) → b ≡ f (row H l m)
-at_row H l f e h = h ∙ ap (λ (k : ℕ). f (row H l k)) e
-
--- and what is said of it and of a profile v, of u, which that is
-pub at_profile : {A : Type 0} {v u : List ℕ} {n m : ℕ} (H : ℕ) (l : List ℕ) (f : List ℕ → List ℕ → A) → v ≡ u → n ≡ m → f v (row H l n) ≡ f u (row H l m)
-at_profile {u = u} {n = n} H l f d e = ap (λ (x : List ℕ). f x (row H l n)) d ∙ ap (λ (k : ℕ). f u (row H l k)) e
 
 -- the row of an issued reference is in use
 pub named_used : {l : List ℕ} {R H : ℕ} → SoundAt l R H → (a : Action) → (1 ≤ a.reference) × (a.reference ≤ used l) → named a < used l
@@ -124,22 +115,19 @@ transfer_over H l n mw t =
 module _ (H : ℕ) (l : List ℕ) (a : Action) where
   pub lapse_confirms : waits_at CR_ACCEPTED (named_row H l a) ≡ true → lapse_after H l a ≡ confirm H (named a) (in_force H (named_row H l a)) l
   unfolding lapse_after
-  lapse_confirms w = sym (hit (waits_at CR_ACCEPTED (named_row H l a)) (confirm H (named a) (in_force H (named_row H l a)) l) (on_row H (named a) (set_status RETRACTED) l) w)
+  lapse_confirms w = simp w
 
   pub lapse_retracts : waits_at CR_ACCEPTED (named_row H l a) ≡ false → lapse_after H l a ≡ on_row H (named a) (set_status RETRACTED) l
   unfolding lapse_after
-  lapse_retracts w =
-      sym (skip (waits_at CR_ACCEPTED (named_row H l a)) (on_row H (named a) (set_status RETRACTED) l) (confirm H (named a) (in_force H (named_row H l a)) l) (on_row H (named a) (set_status RETRACTED) l) w refl)
+  lapse_retracts w = simp w
 
   pub approve_confirms : waits_at ACCEPTED (named_row H l a) ≡ true → approve_after H l a ≡ confirm H (named a) (in_force H (named_row H l a)) (on_row H (named a) (raise approved) l)
   unfolding approve_after
-  approve_confirms w =
-      sym (hit (waits_at ACCEPTED (named_row H l a)) (confirm H (named a) (in_force H (named_row H l a)) (on_row H (named a) (raise approved) l)) (on_row H (named a) (raise approved) l) w)
+  approve_confirms w = simp w
 
   pub approve_marks : waits_at ACCEPTED (named_row H l a) ≡ false → approve_after H l a ≡ on_row H (named a) (raise approved) l
   unfolding approve_after
-  approve_marks w =
-      sym (skip (waits_at ACCEPTED (named_row H l a)) (on_row H (named a) (raise approved) l) (confirm H (named a) (in_force H (named_row H l a)) (on_row H (named a) (raise approved) l)) (on_row H (named a) (raise approved) l) w refl)
+  approve_marks w = simp w
 
 -- ---- the last check: whether a word is carried over 100,000
 -- row n confirms with its profile in force, as it is or marked approved first
@@ -204,3 +192,69 @@ pub lapse_waiting : (H : ℕ) (l : List ℕ) (a : Action) → lapse_number H l a
 lapse_waiting H l a e =
     let P = lapse_passed H l a e in
     record { issued = P.reference; ample = λ w. (confirm_passed _ _ _ _ _ (P.confirms w)).short }
+
+-- ---- an action that passed its checks
+-- its reference was issued; its profile lies in its slice, and is as long as the span
+pub reduce_named : (H : ℕ) (l w : List ℕ) (a : Action) → reduce_number H l w a ≡ 0 → no_reference l a ≡ false
+reduce_named H l w a e = issued_known l a (reduce_passed H l w a e).reference
+
+pub reduce_fits : (H : ℕ) (l w : List ℕ) (a : Action) → reduce_number H l w a ≡ 0 → a.offset + a.length ≤ length w
+reduce_fits H l w a e = (reduce_passed H l w a e).profile.fits
+
+pub reduce_long : (H : ℕ) (l w : List ℕ) (a : Action) → reduce_number H l w a ≡ 0 → length (profile w a) ≡ span_hours (named_row H l a)
+reduce_long H l w a e = profile_length (reduce_passed H l w a e).profile
+
+pub lapse_named : (H : ℕ) (l : List ℕ) (a : Action) → lapse_number H l a ≡ 0 → no_reference l a ≡ false
+lapse_named H l a e = issued_known l a (lapse_passed H l a e).reference
+
+pub approve_named : (H : ℕ) (l : List ℕ) (a : Action) → approve_number H l a ≡ 0 → no_reference l a ≡ false
+approve_named H l a e = issued_known l a (approve_passed H l a e).reference
+
+-- the row n is marked approved: confirming may follow where it waits
+module _ {l l₁ : List ℕ} {R H n : ℕ} (s : SoundAt l R H) (a : Action) (e : approve_number H l a ≡ 0) (q : n ≡ named a) (m : l₁ ≡ on_row H n (raise approved) l) where
+  after : Marked l l₁ H n
+  after = marked_by s (omega (arith, q, named_used s a (approve_passed H l a e).reference)) m
+
+  pub approved_placed : Placed l₁ R H n
+  approved_placed = marked_placed s after
+
+  pub approved_force : in_force H (row H l₁ n) ≡ in_force H (row H l n)
+  approved_force = after.force
+
+  pub approved_over : over_confirming H l₁ n (in_force H (row H l₁ n)) ≡ false
+  approved_over =
+      ap (over_confirming H l₁ n) approved_force
+      ∙ after.over (in_force H (row H l n))
+      ∙ ap (λ (k : ℕ). over_confirming H l k (in_force H (row H l k))) q
+      ∙ transfer_over H l (named a) (in_force H (named_row H l a)) (approve_passed H l a e).type
+
+  pub approved_short : waits_at ACCEPTED (row H l n) ≡ true → short H l₁ n (in_force H (row H l₁ n)) ≡ false
+  approved_short w =
+      ap (short H l₁ n) approved_force
+      ∙ after.short (in_force H (row H l n))
+      ∙ ap (λ (k : ℕ). short H l k (in_force H (row H l k))) q
+      ∙ (confirm_passed _ _ _ _ _ ((approve_passed H l a e).confirms (sym (ap (λ (k : ℕ). waits_at ACCEPTED (row H l k)) q) ∙ w))).short
+
+pub waiting_named : (H : ℕ) (l : List ℕ) (a : Action) (s : ℕ) → Waiting H l a s → no_reference l a ≡ false
+waiting_named H l a s w = issued_known l a w.issued
+
+-- the path's postings from the posting's start on hold the profile
+pub posting_ends : {H at : ℕ} {ps : List ℕ} (w : List ℕ) (a : Action) → Postings H ps → PostPassed H w a → PostingAt H a.path a.start at → at + length (profile w a) ≤ length ps
+posting_ends w a q p at = omega (arith, at.fits, q.long, words_length p.words, p.starts, p.stops)
+
+-- for what such an action asks of the functions that it calls
+pub ruleset reducing = (reduce_named, reduce_fits, reduce_long, reduce_passed, over_reduce)
+
+pub ruleset too_much = (sized, in_rows, profile_passed, profile_length, span_fits, span_hours_lem)
+
+pub ruleset lapsing = (lapse_named, lapse_passed, confirm_passed, named_used, over_lapse_confirms, over_lapse_retracts, lapse_confirms, lapse_retracts)
+
+pub ruleset waiting = (and_stops, and_goes, waiting_named, sized, in_rows)
+
+pub ruleset approving = (approve_named, approved_force, approve_confirms, approve_marks)
+
+-- for the checks of an action that names a row
+pub ruleset chosen = (choice, hit_by, head_fits, sized, in_rows)
+
+-- for what is read of row n
+pub ruleset own_row = (sized, in_rows, head_placed, or_stops, or_goes, and_stops, and_goes)

@@ -1,5 +1,5 @@
-// The provider's own actions on a sound ledger: approve, reduce, lapse, clock, post. Each has its number and what it
-// writes.
+// The provider's own actions on a sound ledger: approve, reduce, lapse, clock, post. Each has its checks and what
+// it writes.
 #![tactic(auto)]
 
 pub mod approve;

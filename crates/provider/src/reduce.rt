@@ -4,98 +4,89 @@ ghost use Rattle.rules.specs.Layout.{row, span_hours};
 ghost use Rattle.rules.specs.Megawatts.{carries_over};
 ghost use Rattle.rules.specs.Checks.{bad_profile};
 ghost use Rattle.rules.specs.Reduce.{not_reducible, reduces_too_much, reduce_number, reduce_after};
+ghost use Rattle.rules.specs.Refusals.{number_of};
 ghost use Rattle.layout.specs.SoundAt.{SoundAt};
 ghost use Rattle.megawatts.specs.Placed.{Placed};
 
 use crate::named::row_named;
-use layout::numbers::{
-    NO_REFERENCE, RELINQUISH, REQTYPE, SHORT, WRONG_MOVE, WRONG_PARTY, WRONG_PROFILE,
-};
+use checks::checks::{bad_profile, no_reference, not_provider, profile, span_hours};
+use layout::numbers::{RELINQUISH, REQTYPE};
 use layout::rows::word_at;
+use layout::size::Size;
 use megawatts::giving::covers_at;
 use megawatts::moving::over_reducing;
 use megawatts::reading::{is_confirmed, start_of};
-use rules::Action;
+use rules::{Action, Refusal};
 
 // Row n is not CONFIRMED, or of type 8.
-fn not_reducible(l: &[u32], rows: usize, hours: usize, n: usize) -> bool
-    requires { Placed l.now rows hours n }
-    ensures { result ≡ not_reducible (row hours l.now n) }
+#[tactic(auto, using(crate::proofs::Laws::own_row), unfolding(rules::specs::Reduce::not_reducible))]
+fn not_reducible(l: &[u32], size: Size, n: usize) -> bool
+    requires { Placed l.now size.rows size.hours n }
+    ensures { result ≡ not_reducible (row size.hours l.now n) }
 {
-    !is_confirmed(l, rows, hours, n) || word_at(l, rows, hours, n, REQTYPE) == RELINQUISH
+    !is_confirmed(l, size, n) || word_at(l, size, n, REQTYPE) == RELINQUISH
 }
 
 // The action's profile is none for the span of row n.
-fn bad_for_span(l: &[u32], words: &[u32], rows: usize, hours: usize, n: usize, a: Action) -> bool
-    requires { Placed l.now rows hours n }
-    ensures { result ≡ bad_profile words.now a (span_hours (row hours l.now n)) }
+#[tactic(auto, using(crate::proofs::Laws::own_row))]
+fn bad_for_span(l: &[u32], words: &[u32], size: Size, n: usize, a: Action) -> bool
+    requires { Placed l.now size.rows size.hours n }
+    ensures { result ≡ bad_profile words.now a (span_hours (row size.hours l.now n)) }
 {
-    let count = checks::checks::span_hours(l, rows, hours, n);
-    checks::checks::bad_profile(words, a, count)
+    bad_profile(words, a, span_hours(l, size, n))
 }
 
 // Row n has less available than the profile in an hour.
-fn reduces_too_much(
-    l: &[u32],
-    words: &[u32],
-    rows: usize,
-    hours: usize,
-    n: usize,
-    a: Action,
-) -> bool
-    requires placed { Placed l.now rows hours n }
-    requires n_value { bad_profile words.now a (span_hours (row hours l.now n)) ≡ false }
-    ensures { result ≡ reduces_too_much hours words.now a (row hours l.now n) }
+#[tactic(auto, using(crate::proofs::Laws::too_much), unfolding(rules::specs::Reduce::reduces_too_much))]
+fn reduces_too_much(l: &[u32], words: &[u32], size: Size, n: usize, a: Action) -> bool
+    requires placed { Placed l.now size.rows size.hours n }
+    requires n_value { bad_profile words.now a (span_hours (row size.hours l.now n)) ≡ false }
+    ensures { result ≡ reduces_too_much size.hours words.now a (row size.hours l.now n) }
 {
-    let start = start_of(l, rows, hours, n);
-    let from = a.offset as usize;
-    let count = a.length as usize;
-    !covers_at(l, rows, hours, n, start, &words[from..from + count])
+    !covers_at(l, size, n, start_of(l, size, n), profile(words, a))
 }
 
-pub fn reduce_number(l: &[u32], words: &[u32], rows: usize, hours: usize, a: Action) -> u32
-    requires { SoundAt l.now rows hours }
-    ensures { result ≡ reduce_number hours l.now words.now a }
+#[tactic(auto, using(crate::proofs::Laws::chosen), unfolding(rules::specs::Reduce::reduce_number))]
+pub fn check_reduce(l: &[u32], words: &[u32], size: Size, a: Action) -> Result<(), Refusal>
+    requires { SoundAt l.now size.rows size.hours }
+    ensures { number_of result ≡ reduce_number size.hours l.now words.now a }
 {
-    if checks::checks::no_reference(l, a) {
-        return NO_REFERENCE;
+    if no_reference(l, a) {
+        return Err(Refusal::NoReference);
     }
-    if checks::checks::not_provider(l, a) {
-        return WRONG_PARTY;
+    if not_provider(l, a) {
+        return Err(Refusal::WrongParty);
     }
-    let n = row_named(l, rows, hours, a);
-    if not_reducible(l, rows, hours, n) {
-        return WRONG_MOVE;
+    let n = row_named(l, size, a);
+    if not_reducible(l, size, n) {
+        return Err(Refusal::WrongMove);
     }
-    if bad_for_span(l, words, rows, hours, n, a) {
-        return WRONG_PROFILE;
+    if bad_for_span(l, words, size, n, a) {
+        return Err(Refusal::WrongProfile);
     }
-    if reduces_too_much(l, words, rows, hours, n, a) {
-        return SHORT;
+    if reduces_too_much(l, words, size, n, a) {
+        return Err(Refusal::Short);
     }
-    0
+    Ok(())
 }
 
 // The reduction would carry a reduced word over 100,000.
-pub fn reduce_over(l: &[u32], words: &[u32], rows: usize, hours: usize, a: Action) -> bool
-    requires sound_at { SoundAt l.now rows hours }
-    requires a_value { reduce_number hours l.now words.now a ≡ 0 }
-    ensures { result ≡ carries_over hours (reduce_after hours l.now words.now a) }
+#[tactic(auto, using(crate::proofs::Laws::reducing))]
+pub fn reduce_over(l: &[u32], words: &[u32], size: Size, a: Action) -> bool
+    requires sound_at { SoundAt l.now size.rows size.hours }
+    requires a_value { reduce_number size.hours l.now words.now a ≡ 0 }
+    ensures { result ≡ carries_over size.hours (reduce_after size.hours l.now words.now a) }
 {
-    let n = row_named(l, rows, hours, a);
-    let from = a.offset as usize;
-    let count = a.length as usize;
-    over_reducing(l, rows, hours, n, &words[from..from + count])
+    over_reducing(l, size, row_named(l, size, a), profile(words, a))
 }
 
-pub fn reduce(l: &mut [u32], words: &[u32], rows: usize, hours: usize, a: Action)
-    requires sound_at { SoundAt l.old rows hours }
-    requires a_value { reduce_number hours l.old words.now a ≡ 0 }
-    requires a_value_2 { carries_over hours (reduce_after hours l.old words.now a) ≡ false }
-    ensures { l.new ≡ reduce_after hours l.old words.now a }
+#[tactic(auto, using(crate::proofs::Laws::reducing), unfolding(rules::specs::Reduce::reduce_after))]
+pub fn reduce(l: &mut [u32], words: &[u32], size: Size, a: Action)
+    requires sound_at { SoundAt l.old size.rows size.hours }
+    requires a_value { reduce_number size.hours l.old words.now a ≡ 0 }
+    requires a_value_2 { carries_over size.hours (reduce_after size.hours l.old words.now a) ≡ false }
+    ensures { l.new ≡ reduce_after size.hours l.old words.now a }
 {
-    let n = row_named(&l[..], rows, hours, a);
-    let from = a.offset as usize;
-    let count = a.length as usize;
-    megawatts::moving::reduce(l, rows, hours, n, &words[from..from + count]);
+    let n = row_named(l, size, a);
+    megawatts::moving::reduce(l, size, n, profile(words, a));
 }

@@ -2,37 +2,29 @@
 use mathlib.Core.Path.{◌≡◌, refl, sym, ap, ◌∙◌}
 use mathlib.Core.Bool.{Bool, true, false, ◌&&◌}
 use mathlib.Core.List.{List, []}
-use Prim.Native.Nat.{ℕ, ◌+◌, ◌-◌, ◌*◌, ◌≤◌}
+use Prim.Native.Nat.{ℕ, ◌+◌, ◌*◌, ◌≤◌}
 use native.Mathlib.Omega.{arith}
 use borrow.Author.Tests.{leb-true}
 use lib.Dec.{leb, lit<}
-use lib.ListN.{length, get_or, take, drop}
+use lib.ListN.{length, get_or, take}
 use native.Mathlib.Nat.{mul-le-mul_right}
 use Rattle.words.specs.Lists.{within, total}
 use Rattle.words.proofs.Laws.{and_left, and_right, within_all, total_most, part_at}
 use Rattle.rules.specs.Pick.{pick}
-use Rattle.rules.specs.Numbers.{head_words, most_hours, most_megawatts, requested_part, granted_part, granted_given}
-use Rattle.rules.specs.Layout.{rows, hours, used, row_of, row, start, span_hours, hour_at, has, issued, bid, span, granted}
+use Rattle.rules.specs.Numbers.{head_words, most_hours, most_megawatts, granted_part}
+use Rattle.rules.specs.Layout.{rows, hours, used, row_of, row, start, span_hours, hour_at, issued, bid, span, granted}
 use Rattle.rules.specs.Sound.{sound}
 use Rattle.rules.specs.Moves.{is_confirmed}
 use Rattle.rules.specs.Megawatts.{in_force}
 use Rattle.rules.specs.ReadOut.{shown, cents, charge_number, charge}
+use Rattle.rules.specs.Refusals.{refusal_number}
+use Rattle.rules.specs.declared.refusal.Refusal.{Refusal}
+use Rattle.rules.proofs.Refused.{is_refused}
 use Rattle.rules.proofs.Rows.{row_least}
 use Rattle.rules.proofs.SoundFacts.{sound_facts}
 use Rattle.rules.proofs.Formed.{formed}
-use Rattle.megawatts.specs.Placed.{Placed, HoursIn}
-use Rattle.megawatts.proofs.Laws.{own_words, own_hours, sized, own_length, span_lent, span_length}
-
--- of two lent parts the one in force
-pub force_lent : {l : List ℕ} {R H n q g count : ℕ} {given : Bool} → Placed l R H n
-    → HoursIn l H n requested_part (start (row H l n)) (span_hours (row H l n)) q → HoursIn l H n granted_part (start (row H l n)) (span_hours (row H l n)) g
-    → count ≡ span_hours (row H l n) → given ≡ has granted_given (row H l n)
-    → pick given (take (g + count - g) (drop g l)) (take (q + count - q) (drop q l)) ≡ in_force H (row H l n)
-unfolding in_force
-force_lent {l} {R} {H} {n} {q} {g} {count} {given} p qt gt e f =
-    ap (λ (b : Bool). pick b (take (g + count - g) (drop g l)) (take (q + count - q) (drop q l))) f
-    ∙ ap (λ (v : List ℕ). pick (has granted_given (row H l n)) v (take (q + count - q) (drop q l))) (span_lent p (lit< tt) gt count e)
-    ∙ ap (λ (v : List ℕ). pick (has granted_given (row H l n)) (granted H (row H l n)) v) (span_lent p (lit< tt) qt count e)
+use Rattle.megawatts.specs.Placed.{Placed}
+use Rattle.megawatts.proofs.Laws.{own_words, own_hours, sized, own_length, span_length}
 
 -- ---- the head of a sound ledger, and the row of an issued reference
 pub head_read : (l : List ℕ) → sound l ≡ true → head_words ≤ length l
@@ -64,14 +56,19 @@ shown_some l r {H} {n} s i eh en =
     let e : in_force H (row H l n) ≡ in_force (hours l) (row (hours l) l (row_of r)) = cc in
     e ∙ sym (ap (λ (b : Bool). pick b (in_force (hours l) (row (hours l) l (row_of r))) []) (ap (λ (b : Bool). b && issued l r) s ∙ i))
 
--- ---- the charge
-pub charge_unsound : (l : List ℕ) (r : ℕ) → sound l ≡ false → (1 ≡ (charge l r).number) × (0 ≡ (charge l r).amount)
-unfolding charge charge_number
-charge_unsound l r s = simp s (refl, refl)
+-- ---- no such row
+pub missing_unsound : (l : List ℕ) (r : ℕ) → sound l ≡ false → 1 ≡ charge_number l r
+unfolding charge_number
+missing_unsound l r s = simp s
 
-pub charge_unissued : (l : List ℕ) (r : ℕ) → sound l ≡ true → issued l r ≡ false → (4 ≡ (charge l r).number) × (0 ≡ (charge l r).amount)
-unfolding charge charge_number
-charge_unissued l r s i = simp (s, i) (refl, refl)
+pub missing_unissued : (l : List ℕ) (r : ℕ) → sound l ≡ true → issued l r ≡ false → 4 ≡ charge_number l r
+unfolding charge_number
+missing_unissued l r s i = simp (s, i)
+
+-- ---- the charge
+pub charge_refused : (l : List ℕ) (r : ℕ) (e : Refusal) → refusal_number e ≡ charge_number l r → (refusal_number e ≡ (charge l r).number) × (0 ≡ (charge l r).amount)
+unfolding charge
+charge_refused l r e q = (q, simp (is_refused e q))
 
 pub charge_unconfirmed : (l : List ℕ) (r : ℕ) {H n : ℕ} → sound l ≡ true → issued l r ≡ true → H ≡ hours l → n ≡ row_of r → is_confirmed (row H l n) ≡ false → (11 ≡ (charge l r).number) × (0 ≡ (charge l r).amount)
 unfolding charge charge_number

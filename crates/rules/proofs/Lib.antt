@@ -1,4 +1,5 @@
 pub mod Picks
+pub mod Refused
 pub mod Types
 pub mod Rows
 pub mod Seen

@@ -29,3 +29,5 @@ pub mod ReadOut
 pub mod Day
 pub mod Parallel
 pub mod Rules
+pub mod Refusals
+pub mod Kinds

@@ -1,12 +1,19 @@
 // The hourly reservation ledger: what is asked of it, and what it answers. specs/ holds the rules.
 #![tactic(auto)]
 
+pub mod kind;
+pub mod refusal;
+
 ghost use Rattle.std.specs.Prelude.{◌≡◌};
 ghost use Rattle.rules.specs.Layout.{row_of};
 
-// A request to the ledger. Fields that its kind does not read are ignored. A profile is `length` words from `offset` on, of the words lent with it.
+pub use kind::Kind;
+pub use refusal::{Refusal, number_of};
+
+// A request to the ledger. Fields that its kind does not read are ignored. A profile is `length` words from `offset` on,
+// of the words lent with it.
 #[repr(C)]
-#[derive(Clone, Copy)]
+#[derive(Clone, Copy, Debug, PartialEq, Eq)]
 pub struct Action {
     pub kind: u32,
     pub actor: u32,
@@ -29,7 +36,7 @@ pub struct Action {
 
 // A number (0: accepted), and of an accepted action its reference, the status before and after, and the MW-hours moved.
 #[repr(C)]
-#[derive(Clone, Copy)]
+#[derive(Clone, Copy, Debug, PartialEq, Eq)]
 pub struct Answer {
     pub number: u32,
     pub reference: u32,
@@ -39,7 +46,7 @@ pub struct Answer {
 }
 
 // A contest for a firm row, which its seller runs; challenger and holder are the greatest terms of the two, in hours.
-#[derive(Clone, Copy)]
+#[derive(Clone, Copy, Debug, PartialEq, Eq)]
 pub struct Contest {
     pub actor: u32,
     pub reference: u32,
@@ -48,7 +55,7 @@ pub struct Contest {
 }
 
 // How a contest ends: the challenger stopped; the holder yielded; a list of moves ran out; a move was refused.
-#[derive(Clone, Copy)]
+#[derive(Clone, Copy, Debug, PartialEq, Eq)]
 pub enum Ending {
     Kept,
     Lost,
@@ -57,11 +64,11 @@ pub enum Ending {
 }
 
 // ASSIGNMENT_REF, from 1.
-#[derive(Clone, Copy)]
+#[derive(Clone, Copy, Debug, PartialEq, Eq)]
 pub struct Reference(pub u32);
 
 // The number of a row, from 0.
-#[derive(Clone, Copy)]
+#[derive(Clone, Copy, Debug, PartialEq, Eq)]
 pub struct RowNumber(pub usize);
 
 // Reference n is row n - 1.

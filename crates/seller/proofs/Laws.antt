@@ -12,10 +12,12 @@ use Rattle.rules.specs.Pick.{pick, when}
 use Rattle.rules.specs.Numbers.{most_price, most_flags, offer_given, countered, DISPLACED}
 use Rattle.rules.specs.Layout.{rows, hours, window, clock, used, row_size, row, on_row, start, flags, flagged, raise, set_status, set_offer, set_limit, span_hours}
 use Rattle.rules.specs.Megawatts.{in_force, grant, displace, annul, carries_over}
-use Rattle.rules.specs.Confirming.{confirm}
+use Rattle.rules.specs.Confirming.{confirm, short}
 use Rattle.rules.specs.Checks.{named, named_row, comes}
 use Rattle.rules.specs.SellerStatus.{counters, accepts, offers, granted_after, goes_on, annuls_confirmed, seller_number, entered, offered, offer_after, other_after, seller_after}
 use Rattle.rules.specs.declared.Action.{Action}
+use Rattle.rules.proofs.Picks.{choice}
+use Rattle.rules.proofs.Refused.{questions}
 use Rattle.rules.proofs.SoundFacts.{SoundWords, SoundLedger}
 use Rattle.rules.proofs.Formed.{formed}
 use Rattle.rules.proofs.Spans.{Spanned}
@@ -29,10 +31,40 @@ use Rattle.rules.proofs.Kept.{Same, Fitting, words_priced, words_granted, same_s
 use Rattle.rules.proofs.Over.{over_confirming, over_annulling, over_displacing, own_offered, over_offered, over_displacing_lem, over_annulling_lem, over_status}
 use Rattle.rules.proofs.Before.{short_stays, over_confirming_stays, over_then_confirming}
 use Rattle.rules.proofs.Entries.{goes_on_lem}
+use Rattle.rules.proofs.After.{use_confirming}
+use Rattle.rules.proofs.OverPaths.{exceeds_at}
 use Rattle.layout.specs.SoundAt.{SoundAt}
+use Rattle.layout.proofs.SoundAt.{head_fits}
 use Rattle.megawatts.specs.Named.{Named, Suits}
-use Rattle.megawatts.proofs.Named.{names}
+use Rattle.megawatts.specs.Placed.{Placed}
+use Rattle.megawatts.proofs.Named.{names, named_at, of_named, suits}
 use Rattle.seller.specs.Offer.{over_offer, over_other, Confirms, Offering}
+
+-- ---- a row in use
+-- granted after the move is a profile for the row's span
+pub granted_fits : {l w : List ℕ} {R H n : ℕ} {a : Action} → Placed l R H n → Suits w a (row H l n) → Fitting (granted_after H w a (row H l n)) (row H l n)
+granted_fits {l} {w} {R} {H} {n} {a} p s =
+    subst (λ (x : ℕ). Suits w a (row x l n) → Fitting (granted_after x w a (row x l n)) (row x l n)) (sym p.hours) (λ t. fitting_granted (same_self p.formed p.row) w a t.profile) s
+
+pub after_length : {l w : List ℕ} {R H n : ℕ} {a : Action} → Placed l R H n → Suits w a (row H l n) → length (granted_after H w a (row H l n)) ≡ span_hours (row H l n)
+after_length p s = (granted_fits p s).counted
+
+-- ---- row n is offered, and no check refused it
+module _ {l w : List ℕ} {R H n : ℕ} {a : Action} (m : Named l R H a n) (o : OfferPassed H l w a) where
+  pub offer_suits : Suits w a (row H l n)
+  offer_suits = subst (λ (k : ℕ). Suits w a (row H l k)) (sym m.is) (record { profile = o.profile })
+
+  -- where it goes on, granted is not short
+  pub offer_short : goes_on a (row H l n) ≡ true → short H l n (granted_after H w a (row H l n)) ≡ false
+  offer_short g =
+      ap (λ (k : ℕ). short H l k (granted_after H w a (row H l k))) m.is
+      ∙ (confirm_passed _ _ _ _ _ (o.confirms (sym (of_named (goes_on a) m) ∙ g))).short
+
+  -- what confirming it uses of a path
+  pub offer_use : (ps : List ℕ)
+      → exceeds_at H l n ps (λ x h. use_confirming H l n (granted_after H w a (row H l n)) x h)
+      ≡ exceeds_at H l (named a) ps (λ x h. use_confirming H l (named a) (granted_after H w a (named_row H l a)) x h)
+  offer_use ps = ap (λ (k : ℕ). exceeds_at H l k ps (λ x h. use_confirming H l k (granted_after H w a (row H l k)) x h)) m.is
 
 -- ---- a row whose offer and its flag are written; f is the flags
 module _ {H f : ℕ} {r w : List ℕ} {a : Action} (long : length r ≡ row_size H) (words : SoundWords H r) (suits : Suits w a r) (price : a.price ≤ most_price)
@@ -212,3 +244,12 @@ module _ (H : ℕ) (l w : List ℕ) (a : Action) where
   pub after_other : offers a ≡ false → other_after H l a ≡ seller_after H l w a
   unfolding seller_after
   after_other o = sym (ap (λ (b : Bool). pick b (offer_after H l a (granted_after H w a (named_row H l a))) (other_after H l a)) o)
+
+-- ---- for the checks, for what a row that goes on uses of a path, and for a move that no check refused
+pub ruleset checking = (head_fits, named_at, choice, questions)
+
+pub ruleset granting = (after_length, suits)
+
+pub ruleset going_on = (granted_fits, offer_suits, offer_short, offer_use)
+
+pub ruleset moving = (passed_named, over_offers, over_others, after_offer, after_other)

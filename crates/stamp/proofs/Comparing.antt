@@ -1,13 +1,16 @@
--- When a comparison is refused and when it is accepted, and what it comes to: the three theorems are at the end. Assumes nothing.
-use mathlib.Core.Path.{◌≡◌, refl, sym, subst}
+-- When a comparison is refused and when it is accepted, and what it comes to: the three theorems are at the end.
+-- Assumes nothing.
+use mathlib.Core.Path.{◌≡◌, refl, sym, ap, subst, ◌∙◌}
+use Rattle.std.proofs.Common.{Bool, true, false, cond, Ordering, Less, Equal, Greater, nat_cmp}
+use Rattle.words.specs.Pick.{◌gives◌else◌}
+use Rattle.std.specs.Ordering.{ordering_index}
 use Prim.Native.Nat.{ℕ, ◌-◌, ◌<◌}
 use native.Mathlib.Omega.{arith}
 use borrow.Author.Tests.{ltb-true, ltb-false, eqb-true, eqb-false, lt-ltb, le-ltb, eq-eqb, ne_eqb}
 use lib.Dec.{eqb, ltb}
-use Rattle.stamp.specs.Stamp.{reading, order_of, comparison, incomparable, earlier, same, later}
+use Rattle.stamp.specs.Stamp.{reading, order_of, comparison, incomparable, earlier, same, later, Reading, Comparison}
 use Rattle.stamp.specs.Comparing.{Reversed, OtherWayRound, SameAsItself, WrittenInOrder}
-use Rattle.stamp.specs.declared.Reading.{Reading}
-use Rattle.stamp.specs.declared.Comparison.{Comparison}
+use Rattle.stamp.proofs.Outcomes.{not_compared_lem}
 use Rattle.stamp.proofs.Picks.{by_test, hit, skip, both, no_left, no_right}
 use Rattle.stamp.proofs.RoundTrips.{written_is_read}
 
@@ -33,6 +36,16 @@ order_reversed s t =
     (λ q. let e : s ≡ t = eqb-true s t q in omega (arith, is_same s t e, is_same t s (sym e)))
     (λ q. let h : t < s = omega (arith, ltb-false s t p, eqb-false s t q) in omega (arith, is_later s t h, is_earlier t s h)))
 
+-- as std compares numbers
+chosen : (less equal : Bool) → ordering_index (cond less Less (cond equal Equal Greater)) ≡ (less gives earlier else equal gives same else later)
+chosen true equal = refl
+chosen false true = refl
+chosen false false = refl
+
+order_is : (s t : ℕ) → ordering_index (nat_cmp s t) ≡ order_of s t
+unfolding order_of
+order_is s t = chosen (ltb s t) (eqb s t)
+
 -- The comparison of two readings.
 module _ (a b : Reading) where
   pub refuses_first : (c : Comparison) → c ≡ incomparable → (a.number ≡ 0 → ⊥) → c ≡ comparison a b
@@ -47,8 +60,12 @@ module _ (a b : Reading) where
   unfolding comparison
   compares o e p q = hit _ _ _ _ (both _ _ (eq-eqb _ _ p) (eq-eqb _ _ q)) (λ i. record { number = 0; order = e i })
 
+pub compared_lem : (a b : Reading) (s t : ℕ) (o : Ordering) → o ≡ nat_cmp s t → record { number = 0; second = s } ≡ a → record { number = 0; second = t } ≡ b → record { number = 0; order = ordering_index o } ≡ comparison a b
+compared_lem a b s t o e p q =
+    compares a b (ordering_index o) (ap ordering_index e ∙ order_is s t ∙ (λ i. order_of (p i).second (q i).second)) (λ i. (sym p i).number) (λ i. (sym q i).number)
+
 -- for the code's returns
-pub ruleset comparisons = (refuses_first, refuses_second, compares)
+pub ruleset comparisons = (refuses_first, refuses_second, compared_lem, not_compared_lem)
 
 -- equal comparisons are reversed alike
 reversed_by : {c d m n : Comparison} → c ≡ m → d ≡ n → Reversed c d → Reversed m n

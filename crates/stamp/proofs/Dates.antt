@@ -1,11 +1,10 @@
 -- The numbers of a stamp and the second in its zone: each gives back the other. Assumes nothing.
 use mathlib.Core.Path.{◌≡◌, refl, sym, ap, ◌∙◌}
-use Prim.Native.Nat.{ℕ, ◌/◌, ◌<◌}
+use Prim.Native.Nat.{ℕ, ◌+◌, ◌-◌, ◌/◌, ◌%◌, ◌<◌}
 use native.Mathlib.Omega.{arith}
-use Rattle.stamp.specs.Calendar.{days_in, days_before, month_of, all_months}
-use Rattle.stamp.specs.Stamp.{fields_at, day_in, month_in, local_second, all_seconds, zone_count, day}
+use Rattle.stamp.specs.Calendar.{days_in, days_before, month_of, all_months, months_of_year}
+use Rattle.stamp.specs.Stamp.{fields_at, day_in, month_in, local_second, all_seconds, zone_count, century, day, hour, minute, Fields}
 use Rattle.stamp.specs.Steps.{Ranged, Printable}
-use Rattle.stamp.specs.declared.Fields.{Fields}
 use Rattle.stamp.proofs.Months.{InMonth, next_month, one_month, month_of_lem, days_most}
 use Rattle.stamp.proofs.Ranges.{day_below}
 
@@ -34,6 +33,21 @@ module _ (t z : ℕ) (few : t < all_seconds) where
   day_back : day_in (fields_at t z) ≡ t / day
   unfolding day_in fields_at
   day_back = omega (arith, ap days_before month_back, found.0.begins)
+
+  -- found by way of the month m and the days before it
+  pub at_fields : (m before : ℕ) → m ≡ month_of (t / day) → before ≡ days_before m
+      → record {
+        century = century;
+        year = m / months_of_year;
+        month = m % months_of_year + 1;
+        day = t / day - before + 1;
+        hour = t % day / hour;
+        minute = t % hour / minute;
+        second = t % minute;
+        zone = z;
+      } ≡ fields_at t z
+  unfolding fields_at
+  at_fields m before p q = cc
 
   -- they are in range
   pub at_ranged : z < zone_count → Ranged (fields_at t z)

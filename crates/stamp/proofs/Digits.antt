@@ -1,17 +1,15 @@
 -- Laws of digits and of zones. Assumes nothing.
 use mathlib.Core.Path.{◌≡◌, refl, sym, ap, ◌∙◌}
-use mathlib.Core.Bool.{false}
+use mathlib.Core.Bool.{true, false}
 use mathlib.Core.List.{List, [], ◌∷◌}
 use Prim.Native.Nat.{ℕ, suc, ◌+◌, ◌-◌, ◌*◌, ◌/◌, ◌%◌, ◌≤◌, ◌<◌}
 use native.Mathlib.Omega.{arith}
 use native.Mathlib.Nat.{zero-add, sub-zero}
-use borrow.Author.Tests.{ltb-false, le-ltb, eq-eqb, ne_eqb, eqb-true}
+use borrow.Author.Tests.{ltb-false, le-ltb, ne_eqb, eqb-true}
 use lib.Dec.{eqb, ltb}
-use native.Mathlib.Numerals.{add-one}
-use lib.ListN.{get_or, length, drop, drop_of_length-le}
-use lib.Seq.{drop-cons}
+use lib.ListN.{get_or, length}
 use Rattle.words.specs.Pick.{pick}
-use Rattle.stamp.specs.Stamp.{no_digit, two_digits, digit0, digit9, place_from, zone_of, zone_letters, zones, zone_count, letters, no_number}
+use Rattle.stamp.specs.Stamp.{no_digit, two_digits, digit0, digit9, place_from, zone_of, zone_letters, zones, zone_count, letters, no_number, C, D, E, M, P, S, T, U}
 use Rattle.stamp.proofs.Picks.{by_test, or_left, or_right, hit, skip}
 use Rattle.stamp.proofs.Lists.{each_at}
 
@@ -24,34 +22,6 @@ unfolding no_digit
 is_digit b h =
     record { low = ltb-false b digit0 (or_left (ltb b digit0) (ltb digit9 b) h); high = ltb-false digit9 b (or_right (ltb b digit0) (ltb digit9 b) h) }
 
--- the search for w in a list, at the place k: it is at none of the places before
-pub record Seeking (w : ℕ) (xs : List ℕ) (k : ℕ) : Type 0 where
-  pub below : k ≤ length xs
-  pub is : place_from 0 w xs ≡ place_from k w (drop k xs)
-
-pub seeking_start : (w : ℕ) (xs : List ℕ) → Seeking w xs 0
-seeking_start w xs = record { below = omega arith; is = refl }
-
-module _ {w : ℕ} {xs : List ℕ} {k : ℕ} (s : Seeking w xs k) where
-  pub seeking_found : k < length xs → w ≡ get_or xs k 0 → k ≡ place_from 0 w xs
-  seeking_found h e =
-      hit (eqb w (get_or xs k 0)) k k (place_from (suc k) w (drop (suc k) xs)) (eq-eqb w (get_or xs k 0) e) refl
-      ∙ ap (place_from k w) (sym (drop-cons xs k 0 h)) ∙ sym s.is
-
-  pub seeking_next : k < length xs → (w ≡ get_or xs k 0 → ⊥) → Seeking w xs (k + 1)
-  seeking_next h n =
-      record {
-        below = omega arith;
-        is = s.is ∙ ap (place_from k w) (drop-cons xs k 0 h)
-            ∙ sym (skip (eqb w (get_or xs k 0)) (place_from (suc k) w (drop (suc k) xs)) k (place_from (suc k) w (drop (suc k) xs)) (ne_eqb w (get_or xs k 0) n) refl)
-            ∙ ap (λ (j : ℕ). place_from j w (drop j xs)) (sym (add-one k));
-      }
-
-  pub seeking_none : length xs ≤ k → length xs ≡ place_from 0 w xs
-  seeking_none h =
-      let e : length xs ≡ k = omega arith in
-      e ∙ ap (place_from k w) (sym (drop_of_length-le xs h)) ∙ sym s.is
-
 no_digit_not : (b : ℕ) → IsDigit b → no_digit b ≡ false
 unfolding no_digit
 no_digit_not b d = simp (le-ltb _ _ d.low, le-ltb _ _ d.high)
@@ -60,6 +30,25 @@ no_digit_not b d = simp (le-ltb _ _ d.low, le-ltb _ _ d.high)
 digits_give : (a b : ℕ) → IsDigit a → IsDigit b → two_digits a b ≡ 10 * (a - digit0) + (b - digit0)
 unfolding two_digits
 digits_give a b p q = simp (no_digit_not a p, no_digit_not b q)
+
+pub both_digits : (a b : ℕ) → digit0 ≤ a → a ≤ digit9 → digit0 ≤ b → b ≤ digit9 → two_digits a b ≡ 10 * (a - digit0) + (b - digit0)
+both_digits a b p q r s = digits_give a b (record { low = p; high = q }) (record { low = r; high = s })
+
+-- a byte that is none of the ten digits
+not_digit : (b : ℕ) → (digit0 ≤ b → b ≤ digit9 → ⊥) → no_digit b ≡ true
+unfolding no_digit
+not_digit b h =
+    by_test (ltb b digit0)
+    (λ p. simp p)
+    (λ p. by_test (ltb digit9 b) (λ q. simp (p, q)) (λ q. absurd (h (ltb-false b digit0 p) (ltb-false digit9 b q))))
+
+pub no_tens : (a b : ℕ) → (digit0 ≤ a → a ≤ digit9 → ⊥) → no_number ≡ two_digits a b
+unfolding two_digits
+no_tens a b h = simp (not_digit a h)
+
+pub no_units : (a b : ℕ) → (digit0 ≤ b → b ≤ digit9 → ⊥) → no_number ≡ two_digits a b
+unfolding two_digits
+no_units a b h = by_test (no_digit a) (λ p. simp p) (λ p. simp (p, not_digit b h))
 
 -- two digits that are written are read back
 pub digits_read : (n : ℕ) → n < no_number → two_digits (digit0 + n / 10) (digit0 + n % 10) ≡ n
@@ -117,3 +106,24 @@ found_at w (x ∷ xs) k h =
 pub zone_written : (w : ℕ) → zone_of w < zone_count → zone_letters (zone_of w) ≡ w
 unfolding zone_of zone_letters
 zone_written w h = ap (λ (j : ℕ). get_or zones j 0) (sym (sub-zero (zone_of w))) ∙ found_at w zones 0 h
+
+-- letters that a zone has, and letters that none has
+pub zones_read : (w : ℕ)
+    → (w ≡ letters U T → zone_of w ≡ 0) × (w ≡ letters E S → zone_of w ≡ 1) × (w ≡ letters E D → zone_of w ≡ 2)
+    × (w ≡ letters C S → zone_of w ≡ 3) × (w ≡ letters C D → zone_of w ≡ 4) × (w ≡ letters M S → zone_of w ≡ 5)
+    × (w ≡ letters M D → zone_of w ≡ 6) × (w ≡ letters P S → zone_of w ≡ 7) × (w ≡ letters P D → zone_of w ≡ 8)
+unfolding zone_of
+zones_read w = (ap zone_of, ap zone_of, ap zone_of, ap zone_of, ap zone_of, ap zone_of, ap zone_of, ap zone_of, ap zone_of)
+
+pub none_read : (w : ℕ)
+    → (w ≡ letters U T → ⊥) → (w ≡ letters E S → ⊥) → (w ≡ letters E D → ⊥) → (w ≡ letters C S → ⊥) → (w ≡ letters C D → ⊥)
+    → (w ≡ letters M S → ⊥) → (w ≡ letters M D → ⊥) → (w ≡ letters P S → ⊥) → (w ≡ letters P D → ⊥)
+    → zone_count ≡ zone_of w
+unfolding zone_of
+none_read w n0 n1 n2 n3 n4 n5 n6 n7 n8 =
+    simp (ne_eqb _ _ n0, ne_eqb _ _ n1, ne_eqb _ _ n2, ne_eqb _ _ n3, ne_eqb _ _ n4, ne_eqb _ _ n5, ne_eqb _ _ n6, ne_eqb _ _ n7, ne_eqb _ _ n8)
+
+-- for the code's returns
+pub ruleset digits_by_code = (no_tens, no_units, both_digits)
+
+pub ruleset zones_by_code = (zones_read, none_read)

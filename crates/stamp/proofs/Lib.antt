@@ -2,12 +2,14 @@ pub mod Picks
 pub mod Lists
 pub mod TableRule
 pub mod Months
-pub mod Halving
+pub mod Begun
 pub mod Digits
+pub mod Zones
 pub mod Ranges
 pub mod Readings
 pub mod Writings
 pub mod Dates
 pub mod RoundTrips
 pub mod Comparing
+pub mod Outcomes
 pub mod Examples

@@ -3,6 +3,7 @@ use mathlib.Core.Path.{◌≡◌, refl, sym, ap, subst, ◌∙◌}
 use mathlib.Core.Bool.{Bool, true, false, ◌&&◌}
 use Prim.Native.Nat.{ℕ, zero, suc, ◌+◌, ◌-◌, ◌≤◌, ◌<◌}
 use native.Mathlib.Omega.{arith}
+use native.Mathlib.Numerals.{add-one}
 use native.Mathlib.Nat.{add-suc, add-zero, suc-add}
 use borrow.Author.Tests.{ltb-true, ltb-false, eqb-true}
 use lib.Dec.{eqb, ltb}
@@ -20,6 +21,9 @@ pub record InMonth (d m : ℕ) : Type 0 where
 pub next_month : (m : ℕ) → days_before (suc m) ≡ days_before m + days_in m
 unfolding days_before
 next_month m = refl
+
+pub month_after : (m : ℕ) → days_before (m + 1) ≡ days_before m + days_in m
+month_after m = ap days_before (add-one m) ∙ next_month m
 
 pub all_days_lem : days_before all_months ≡ all_days
 unfolding days_before days_in leap

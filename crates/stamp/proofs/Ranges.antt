@@ -1,34 +1,16 @@
 -- What the ranges of a stamp's numbers say, as facts on numbers. Assumes nothing.
-use mathlib.Core.Path.{◌≡◌, ◌∙◌}
+use mathlib.Core.Path.{◌≡◌}
 use mathlib.Core.Bool.{Bool, true, false, ◌&&◌}
 use Prim.Native.Nat.{suc, ◌<◌}
 use native.Mathlib.Omega.{arith}
 use borrow.Author.Tests.{ltb-true, leb-true, eqb-true, lt-ltb, le-leb, eq-eqb}
 use lib.Dec.{eqb, ltb, leb}
+use Rattle.std.proofs.Common.{◌⊎◌, inl, inr}
 use Rattle.stamp.specs.Calendar.{all_months, all_days, months_of_year}
-use Rattle.stamp.specs.Stamp.{is_month, in_month, is_date, is_time, in_range, month_in, day_in, century, last_year, zone_count}
-use Rattle.stamp.specs.Steps.{in_limits, OfMonth, Ranged}
-use Rattle.stamp.specs.declared.Fields.{Fields}
-use Rattle.stamp.proofs.Picks.{and_left, and_right, both, no_left, no_right, moved}
+use Rattle.stamp.specs.Stamp.{is_month, in_month, is_date, is_time, in_range, month_in, day_in, century, last_year, zone_count, Fields}
+use Rattle.stamp.specs.Steps.{Ranged}
+use Rattle.stamp.proofs.Picks.{by_test, and_left, and_right}
 use Rattle.stamp.proofs.Months.{next_month, later_month, all_days_lem}
-
-pub of_month : (f : Fields) → is_month f ≡ true → OfMonth f
-unfolding is_month
-of_month f h =
-    let a1 : Bool = eqb f.century century in
-    let a2 : Bool = a1 && leb f.year last_year in
-    let a3 : Bool = a2 && leb 1 f.month in
-    let a4 : Bool = a3 && leb f.month months_of_year in
-    let d4 : a4 ≡ true = and_left a4 (leb 1 f.day) h in
-    let d3 : a3 ≡ true = and_left a3 (leb f.month months_of_year) d4 in
-    let d2 : a2 ≡ true = and_left a2 (leb 1 f.month) d3 in
-    record {
-      hundreds = eqb-true _ _ (and_left a1 (leb f.year last_year) d2);
-      years = leb-true _ _ (and_right a1 (leb f.year last_year) d2);
-      first_month = leb-true _ _ (and_right a2 (leb 1 f.month) d3);
-      last_month = leb-true _ _ (and_right a3 (leb f.month months_of_year) d4);
-      first_day = leb-true _ _ (and_right a4 (leb 1 f.day) h);
-    }
 
 pub ranged : (f : Fields) → in_range f ≡ true → Ranged f
 unfolding in_range is_date is_time is_month
@@ -36,16 +18,23 @@ ranged f h =
     let z : ltb f.zone zone_count ≡ true = and_right (is_date f && is_time f) (ltb f.zone zone_count) h in
     let dt : (is_date f && is_time f) ≡ true = and_left (is_date f && is_time f) (ltb f.zone zone_count) h in
     let d : is_date f ≡ true = and_left (is_date f) (is_time f) dt in
-    let m : OfMonth f = of_month f (and_left (is_month f) (in_month f) d) in
+    let m : is_month f ≡ true = and_left (is_month f) (in_month f) d in
+    let a1 : Bool = eqb f.century century in
+    let a2 : Bool = a1 && leb f.year last_year in
+    let a3 : Bool = a2 && leb 1 f.month in
+    let a4 : Bool = a3 && leb f.month months_of_year in
+    let d4 : a4 ≡ true = and_left a4 (leb 1 f.day) m in
+    let d3 : a3 ≡ true = and_left a3 (leb f.month months_of_year) d4 in
+    let d2 : a2 ≡ true = and_left a2 (leb 1 f.month) d3 in
     let t3 : is_time f ≡ true = and_right (is_date f) (is_time f) dt in
     let b2 : Bool = leb f.hour 23 && leb f.minute 59 in
     let t2 : b2 ≡ true = and_left b2 (leb f.second 59) t3 in
     record {
-      hundreds = m.hundreds;
-      years = m.years;
-      first_month = m.first_month;
-      last_month = m.last_month;
-      first_day = m.first_day;
+      hundreds = eqb-true _ _ (and_left a1 (leb f.year last_year) d2);
+      years = leb-true _ _ (and_right a1 (leb f.year last_year) d2);
+      first_month = leb-true _ _ (and_right a2 (leb 1 f.month) d3);
+      last_month = leb-true _ _ (and_right a3 (leb f.month months_of_year) d4);
+      first_day = leb-true _ _ (and_right a4 (leb 1 f.day) m);
       last_day = leb-true _ _ (and_right (is_month f) (in_month f) d);
       hours = leb-true _ _ (and_left (leb f.hour 23) (leb f.minute 59) t2);
       minutes = leb-true _ _ (and_right (leb f.hour 23) (leb f.minute 59) t2);
@@ -53,23 +42,8 @@ ranged f h =
       zones = ltb-true _ _ z;
     }
 
-pub limited_month : (f : Fields) → in_limits f ≡ true → OfMonth f
-unfolding in_limits
-limited_month f h = of_month f (and_left (is_month f) (is_time f) (and_left (is_month f && is_time f) (ltb f.zone zone_count) h))
-
--- the month's last day, tested after all else
-last_day_lem : (f : Fields) → in_range f ≡ (in_limits f && in_month f)
-unfolding in_range is_date in_limits is_month
-last_day_lem f = moved (is_month f) (in_month f) (is_time f) (ltb f.zone zone_count)
-
-pub past_limits : (f : Fields) → in_limits f ≡ false → in_range f ≡ false
-past_limits f h = last_day_lem f ∙ no_left (in_limits f) (in_month f) h
-
-pub past_month : (f : Fields) → in_month f ≡ false → in_range f ≡ false
-past_month f h = last_day_lem f ∙ no_right (in_limits f) (in_month f) h
-
-pub in_both : (f : Fields) → in_limits f ≡ true → in_month f ≡ true → in_range f ≡ true
-in_both f p q = last_day_lem f ∙ both (in_limits f) (in_month f) p q
+pub range_cases : (f : Fields) → (in_range f ≡ false) ⊎ Ranged f
+range_cases f = by_test (in_range f) (λ p. inr (ranged f p)) (λ p. inl p)
 
 pub in_range_lem : {f : Fields} → Ranged f → in_range f ≡ true
 unfolding in_range is_date is_month is_time

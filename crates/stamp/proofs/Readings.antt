@@ -7,8 +7,9 @@ use native.Mathlib.Omega.{arith}
 use borrow.Author.Tests.{ltb-true, eqb-true, lt-ltb, le-ltb, eq-eqb, ne_eqb}
 use lib.Dec.{eqb, ltb}
 use lib.ListN.{length}
-use Rattle.stamp.specs.Stamp.{is_stamp, in_range, fields_of, second_of, reading, refusal, stamp_length, all_seconds}
-use Rattle.stamp.specs.declared.Reading.{Reading}
+use Rattle.stamp.specs.Stamp.{is_stamp, in_range, fields_of, second_of, reading, refusal, stamp_length, all_seconds, Reading}
+use Rattle.stamp.proofs.Outcomes.{not_read_lem}
+use Rattle.stamp.proofs.Ranges.{in_range_lem}
 use Rattle.stamp.proofs.Picks.{by_test, hit, skip, both, no_left, no_right, and_left, and_right}
 
 abbrev pub accepted : List ℕ → Reading
@@ -60,3 +61,6 @@ module _ (bs : List ℕ) where
       (λ p.
       let e : 18 ≡ 0 = ap (λ (r : Reading). r.number) (skip (stamped && timely) refusal (accepted bs) refusal p refl) ∙ h in
       absurd (omega arith))
+
+-- for the code's returns
+pub ruleset readings = (refuses_length, refuses_range, refuses_late, accepts, in_range_lem, not_read_lem)

@@ -8,11 +8,9 @@ use native.Mathlib.Nat.{not-suc-le-zero, le_of_suc-le-suc}
 use borrow.Author.Tests.{ltb-true}
 use lib.Dec.{ltb}
 use lib.ListN.{length, get_or}
-use Rattle.stamp.specs.Stamp.{fields_of, bytes_of, fields_at, local_second, second_of, offset, in_range, reading, stamp_zone, stamp_of, write_number, written, stamp_length, all_seconds, zone_of, zone_letters, letters, zone_count}
+use Rattle.stamp.specs.Stamp.{fields_of, bytes_of, fields_at, local_second, second_of, offset, in_range, reading, stamp_zone, stamp_of, write_number, written, stamp_length, all_seconds, zone_of, zone_letters, letters, zone_count, Fields, Reading}
 use Rattle.stamp.specs.Steps.{Ranged, Printable}
 use Rattle.stamp.specs.RoundTrips.{are_bytes, WrittenIsRead, ReadIsWritten}
-use Rattle.stamp.specs.declared.Fields.{Fields}
-use Rattle.stamp.specs.declared.Reading.{Reading}
 use Rattle.stamp.proofs.Picks.{and_left, and_right}
 use Rattle.stamp.proofs.Lists.{spelled, spelled_is}
 use Rattle.stamp.proofs.Digits.{digits_read, digits_written, zone_read, zone_written}

@@ -1,29 +1,17 @@
--- The bytes of a stamp, put in place two by two; when writing is refused and when it is accepted. Assumes nothing.
-use mathlib.Core.Path.{◌≡◌, refl, sym, ap, ◌∙◌}
+-- When writing is refused and when it is accepted. Assumes nothing.
+use mathlib.Core.Path.{◌≡◌, refl, sym, ap}
 use mathlib.Core.Bool.{Bool, true, false, not}
-use mathlib.Core.List.{List, ◌++◌, append-nil}
-use Prim.Native.Nat.{ℕ, ◌+◌, ◌≤◌, ◌<◌}
+use mathlib.Core.List.{List}
+use Prim.Native.Nat.{ℕ, ◌≤◌, ◌<◌}
 use native.Mathlib.Omega.{arith}
 use borrow.Author.Tests.{ltb-false, leb-false, eqb-true, lt-ltb, le-ltb, le-leb, lt-leb, eq-eqb, ne_eqb, not-false}
 use lib.Dec.{eqb, ltb, leb}
-use lib.ListN.{length, drop_of_length-le}
-use lib.Seq.{sets, sets-eq}
+use lib.ListN.{length}
 use Rattle.words.specs.Pick.{◌gives◌else◌}
-use Rattle.stamp.specs.Steps.{put_digits, put_zone}
-use Rattle.stamp.specs.Stamp.{bytes_of, write_number, written, stamp_of, offset, stamp_length, all_seconds, zone_count, not_written}
-use Rattle.stamp.specs.declared.Fields.{Fields}
+use Rattle.stamp.specs.Stamp.{write_number, written, stamp_of, offset, stamp_length, all_seconds, zone_count, not_written}
+use Rattle.stamp.proofs.Outcomes.{not_written_lem}
+use Rattle.stamp.proofs.Zones.{code_below}
 use Rattle.stamp.proofs.Picks.{hit, skip}
-
--- sixteen bytes in place of sixteen
-all_set : (l vs : List ℕ) → length l ≡ length vs → sets l 0 vs ≡ vs
-all_set l vs h = sets-eq vs l 0 (omega arith) ∙ ap (λ (r : List ℕ). vs ++ r) (drop_of_length-le l {i = 0 + length vs} (omega arith)) ∙ append-nil vs
-
-pub put_all : (f : Fields) (l : List ℕ) {a b c d e g h m : List ℕ} → length l ≡ stamp_length
-    → a ≡ put_digits l 0 f.century → b ≡ put_digits a 2 f.year → c ≡ put_digits b 4 f.month → d ≡ put_digits c 6 f.day
-    → e ≡ put_digits d 8 f.hour → g ≡ put_digits e 10 f.minute → h ≡ put_digits g 12 f.second → m ≡ put_zone h f.zone
-    → m ≡ bytes_of f
-unfolding put_digits put_zone bytes_of
-put_all f l long p q r s t u v w = simp (w, v, u, t, s, r, q, p) (all_set l (bytes_of f) long)
 
 -- a check that does not refuse is passed
 passed : (t : Bool) (n : ℕ) → (t gives not_written else n) ≡ 0 → (t ≡ false) × (n ≡ 0)
@@ -39,28 +27,25 @@ pub record Writable (bs : List ℕ) (s z : ℕ) : Type 0 where
 
 module _ (bs : List ℕ) (s z : ℕ) where
   -- on a refusal nothing is written
-  abbrev pub Refused : Type 0
-  Refused = (not_written ≡ write_number bs s z) × (bs ≡ written bs s z)
-
-  kept : not_written ≡ write_number bs s z → Refused
+  pub unwritten : write_number bs s z ≡ not_written → written bs s z ≡ bs
   unfolding written
-  kept h = (h, skip (eqb (write_number bs s z) 0) bs (stamp_of s z) bs (ap (λ (n : ℕ). eqb n 0) (sym h)) refl)
+  unwritten h = sym (skip (eqb (write_number bs s z) 0) bs (stamp_of s z) bs (ap (λ (n : ℕ). eqb n 0) h) refl)
 
-  pub refuses_second : all_seconds ≤ s → Refused
+  pub refuses_second : all_seconds ≤ s → write_number bs s z ≡ not_written
   unfolding write_number
-  refuses_second h = kept (simp (le-leb _ _ h))
+  refuses_second h = simp (le-leb _ _ h)
 
-  pub refuses_zone : s < all_seconds → zone_count ≤ z → Refused
+  pub refuses_zone : s < all_seconds → zone_count ≤ z → write_number bs s z ≡ not_written
   unfolding write_number
-  refuses_zone g h = kept (simp (lt-leb _ _ g, le-leb _ _ h))
+  refuses_zone g h = simp (lt-leb _ _ g, le-leb _ _ h)
 
-  pub refuses_early : s < all_seconds → z < zone_count → s < offset z → Refused
+  pub refuses_early : s < all_seconds → z < zone_count → s < offset z → write_number bs s z ≡ not_written
   unfolding write_number
-  refuses_early g h k = kept (simp (lt-leb _ _ g, lt-leb _ _ h, lt-ltb _ _ k))
+  refuses_early g h k = simp (lt-leb _ _ g, lt-leb _ _ h, lt-ltb _ _ k)
 
-  pub refuses_length : s < all_seconds → z < zone_count → offset z ≤ s → (length bs ≡ stamp_length → ⊥) → Refused
+  pub refuses_length : s < all_seconds → z < zone_count → offset z ≤ s → (length bs ≡ stamp_length → ⊥) → write_number bs s z ≡ not_written
   unfolding write_number
-  refuses_length g h k n = kept (simp (lt-leb _ _ g, lt-leb _ _ h, le-ltb _ _ k, ne_eqb _ _ n))
+  refuses_length g h k n = simp (lt-leb _ _ g, lt-leb _ _ h, le-ltb _ _ k, ne_eqb _ _ n)
 
   pub writes : Writable bs s z → write_number bs s z ≡ 0
   unfolding write_number
@@ -85,3 +70,6 @@ module _ (bs : List ℕ) (s z : ℕ) where
         late = ltb-false _ _ r.0;
         long = eqb-true _ _ (not-false _ (passed (not (eqb (length bs) stamp_length)) 0 r.1).0);
       }
+
+-- for the code's returns
+pub ruleset writings = (unwritten, refuses_second, refuses_zone, refuses_early, refuses_length, writes, stamped, not_written_lem, code_below)

@@ -46,7 +46,8 @@ unfoldable pub days_before : ℕ → ℕ
 days_before zero = 0
 days_before (suc m) = days_before m + days_in m
 
--- the month of the day that is d days after the first of the month m: m itself where d is among its days, else with those taken off from the next month on; n bounds the walk
+-- the month of the day that is d days after the first of the month m: m itself where d is among its days, else with
+-- those taken off from the next month on; n bounds the walk
 unfoldable pub month_from : ℕ → ℕ → ℕ → ℕ
 month_from zero m d = m
 month_from (suc n) m d = pick (ltb d (days_in m)) m (month_from n (suc m) (d - days_in m))

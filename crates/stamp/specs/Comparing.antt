@@ -1,8 +1,6 @@
 -- What comparing comes to.
 use Rattle.std.specs.Prelude.{◌≡◌, List, ℕ, ◌-◌}
-use Rattle.stamp.specs.Stamp.{reading, comparison, order_of, same, later, write_number, written}
-use Rattle.stamp.specs.declared.Reading.{Reading}
-use Rattle.stamp.specs.declared.Comparison.{Comparison}
+use Rattle.stamp.specs.Stamp.{reading, comparison, order_of, same, later, write_number, written, Reading, Comparison}
 
 -- d is the comparison c the other way round: refused as c is, or earlier and later, 0 and 2, have changed places
 abbrev pub Reversed : Comparison → Comparison → Type 0

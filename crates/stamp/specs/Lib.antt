@@ -1,6 +1,9 @@
 pub mod Calendar
 pub mod Stamp
 pub mod Steps
+pub mod Zones
+pub mod Moments
+pub mod Outcomes
 pub mod RoundTrips
 pub mod Comparing
 pub mod Examples

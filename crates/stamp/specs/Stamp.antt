@@ -2,9 +2,6 @@
 use Rattle.std.specs.Prelude.{ℕ, suc, ◌+◌, ◌-◌, ◌*◌, ◌/◌, ◌%◌, Bool, ◌&&◌, ◌||◌, not, List, [], ◌∷◌, ◌++◌, eqb, leb, ltb, length, get_or}
 use Rattle.words.specs.Pick.{pick, ◌gives◌else◌}
 use Rattle.stamp.specs.Calendar.{months_of_year, all_days, days_in, days_before, month_of}
-use Rattle.stamp.specs.declared.Fields.{Fields}
-use Rattle.stamp.specs.declared.Reading.{Reading}
-use Rattle.stamp.specs.declared.Comparison.{Comparison}
 
 abbrev pub stamp_length : ℕ
 stamp_length = 16
@@ -154,6 +151,17 @@ number_at bs k = two_digits (get_or bs k 0) (get_or bs (k + 1) 0)
 abbrev pub stamp_zone : List ℕ → ℕ
 stamp_zone bs = zone_of (letters (get_or bs 14 0) (get_or bs 15 0))
 
+-- the first two and the last two digits of the year, month and day from 1 on, the time, and the zone's code
+pub record Fields : Type 0 where
+  pub century : ℕ
+  pub year : ℕ
+  pub month : ℕ
+  pub day : ℕ
+  pub hour : ℕ
+  pub minute : ℕ
+  pub second : ℕ
+  pub zone : ℕ
+
 -- the numbers that the bytes give
 unfoldable pub fields_of : List ℕ → Fields
 fields_of bs =
@@ -230,6 +238,11 @@ fields_at t z =
 unfoldable pub is_stamp : List ℕ → Bool
 is_stamp bs = eqb (length bs) stamp_length && in_range (fields_of bs)
 
+-- what reading gives: 0 and the second, or 18 and 0
+pub record Reading : Type 0 where
+  pub number : ℕ
+  pub second : ℕ
+
 abbrev pub refusal : Reading
 refusal = record { number = not_read; second = 0 }
 
@@ -274,6 +287,11 @@ order_of s t =
     ltb s t gives earlier else
     eqb s t gives same else
     later
+
+-- what comparing gives: 0 and the order, or 18 and 0
+pub record Comparison : Type 0 where
+  pub number : ℕ
+  pub order : ℕ
 
 abbrev pub incomparable : Comparison
 incomparable = record { number = not_read; order = 0 }

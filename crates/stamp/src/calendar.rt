@@ -1,9 +1,10 @@
-// The days before a month and in it, and the month of a day. Months count from 0, January 2000, and days from 2000-01-01.
+// The days before a month and in it, and the month of a day. Months count from 0, January 2000, and days from 0,
+// 2000-01-01.
 ghost use Rattle.std.specs.Prelude.{◌≡◌, ◌<◌, ◌≤◌};
 ghost use Rattle.stamp.specs.Calendar.{days_in, all_months, all_days};
-ghost use Rattle.stamp.specs.Steps.{MonthTable, Before, MonthFound};
+ghost use Rattle.stamp.specs.Steps.{Before, MonthFound};
 
-use crate::table::Table;
+use crate::table;
 
 pub const MONTHS_OF_YEAR: u32 = 12;
 
@@ -13,41 +14,31 @@ const ALL_MONTHS: u32 = 1200;
 pub const ALL_DAYS: u32 = 36525;
 
 // The days before a month, or before the end of 2099.
-pub fn days_before(table: &Table, month: u32) -> u32
-    requires month_table { MonthTable table.now }
-    requires month_le_all_months { month ≤ all_months }
+#[tactic(auto, using(crate::proofs::Months::all_days_lem, crate::proofs::Months::later_month))]
+pub fn days_before(month: u32) -> u32
+    requires { month ≤ all_months }
     ensures { Before month result }
 {
     if month == ALL_MONTHS {
         return ALL_DAYS;
     }
-    table[month as usize]
+    table::month_table()[month as usize]
 }
 
 // The days of a month.
-pub fn days_in(table: &Table, month: u32) -> u32
-    requires month_table { MonthTable table.now }
-    requires month_lt_all_months { month < all_months }
+#[tactic(auto, using(crate::proofs::Months::month_after))]
+pub fn days_in(month: u32) -> u32
+    requires { month < all_months }
     ensures { result ≡ days_in month }
 {
-    days_before(table, month + 1) - days_before(table, month)
+    days_before(month + 1) - days_before(month)
 }
 
-// The month in which a day lies. Each of the 11 turns halves the months that are left, and then one is left.
-pub fn month_of(table: &Table, day: u32) -> u32
-    requires month_table { MonthTable table.now }
-    requires day_lt_all_days { day < all_days }
+// The month in which a day lies: the last that does not begin after it.
+pub fn month_of(day: u32) -> u32
+    requires { day < all_days }
     ensures { MonthFound day result }
 {
-    let mut low = 0;
-    let mut high = ALL_MONTHS;
-    for _ in 0..11u32 {
-        let middle = (low + high) / 2;
-        if days_before(table, middle) <= day {
-            low = middle;
-        } else {
-            high = middle;
-        }
-    }
-    low
+    let begun = table::month_table().partition_point(|before| *before <= day);
+    begun as u32 - 1
 }

@@ -2,22 +2,22 @@
 #![tactic(auto)]
 
 mod calendar;
-mod compare;
-mod read;
+mod moment;
+mod numbers;
 mod table;
-mod write;
 mod zone;
 
 ghost use Rattle.std.specs.Prelude.{◌≡◌};
-ghost use Rattle.stamp.specs.Stamp.{reading, refusal, comparison, write_number, written};
+ghost use Rattle.stamp.specs.Stamp.{reading, comparison, write_number, written};
+ghost use Rattle.stamp.specs.Outcomes.{reading_of, comparison_of, writing_number};
+
+use moment::Moment;
+use std::cmp::Ordering;
+use std::error::Error;
+use std::fmt;
+use zone::{UnknownZone, Zone};
 
 const STAMP_LENGTH: usize = 16;
-
-const ACCEPTED: u32 = 0;
-
-const NOT_READ: u32 = 18;
-
-const NOT_WRITTEN: u32 = 19;
 
 const MINUTE: u32 = 60;
 
@@ -28,101 +28,76 @@ const DAY: u32 = 24 * HOUR;
 // The seconds of the years 2000 to 2099.
 const ALL_SECONDS: u32 = calendar::ALL_DAYS * DAY;
 
-// The first two digits of the years.
-const CENTURY: u32 = 20;
+// The bytes are no stamp, or one past the last second.
+#[derive(Clone, Copy, Debug, PartialEq, Eq)]
+pub struct NotRead;
 
-// The numbers of a stamp: the first two and the last two digits of the year, month and day from 1 on, the time, and the zone's code.
-#[derive(Clone, Copy)]
-pub struct Fields {
-    pub century: u32,
-    pub year: u32,
-    pub month: u32,
-    pub day: u32,
-    pub hour: u32,
-    pub minute: u32,
-    pub second: u32,
-    pub zone: u32,
-}
-
-// What reading gives: 0 and the second, or 18 and 0.
-#[derive(Clone, Copy)]
-pub struct Reading {
-    pub number: u32,
-    pub second: u32,
-}
-
-// What comparing gives: 0 and the order, 0, 1 or 2 as the first is earlier than, the same as or later than the second,
-// or 18 and 0.
-#[derive(Clone, Copy)]
-pub struct Comparison {
-    pub number: u32,
-    pub order: u32,
-}
-
-fn refused() -> Reading
-    ensures { result ≡ refusal }
-{
-    Reading {
-        number: NOT_READ,
-        second: 0,
+impl fmt::Display for NotRead {
+    fn fmt<W: fmt::Write>(&self, f: &mut fmt::Formatter<W>) -> fmt::Result {
+        f.write_str("no stamp of the years 2000 to 2099")
     }
 }
 
-// Reads a stamp.
-pub fn read_stamp(bytes: &[u8]) -> Reading
-    ensures { result ≡ reading bytes.now }
+impl Error for NotRead {}
+
+// The second or the zone is out of range, the local year is before 2000, or the slice is not of 16 bytes.
+#[derive(Clone, Copy, Debug, PartialEq, Eq)]
+pub struct NotWritten;
+
+impl fmt::Display for NotWritten {
+    fn fmt<W: fmt::Write>(&self, f: &mut fmt::Formatter<W>) -> fmt::Result {
+        f.write_str("no stamp of the years 2000 to 2099 to write here")
+    }
+}
+
+impl Error for NotWritten {}
+
+impl From<UnknownZone> for NotWritten {
+    fn from(_zone: UnknownZone) -> NotWritten {
+        NotWritten
+    }
+}
+
+// Reads a stamp: its second.
+#[tactic(auto, using(crate::proofs::Readings::readings))]
+pub fn read_stamp(bytes: &[u8]) -> Result<u32, NotRead>
+    ensures { reading_of result ≡ reading bytes.now }
 {
     if bytes.len() != STAMP_LENGTH {
-        return refused();
+        return Err(NotRead);
     }
-    let f = read::fields_of(bytes);
-    if !read::in_limits(f) {
-        return refused();
-    }
-    let table = table::month_table();
-    if !read::in_month(&table, f) {
-        return refused();
-    }
-    let ut = read::second_of(&table, f);
+    let moment = Moment::read(bytes).ok_or(NotRead)?;
+    let ut = moment.second();
     if ALL_SECONDS <= ut {
-        return refused();
+        return Err(NotRead);
     }
-    Reading {
-        number: ACCEPTED,
-        second: ut,
-    }
+    Ok(ut)
 }
 
 // Compares two stamps by their seconds, whatever their zones.
-pub fn compare_stamps(first: &[u8], second: &[u8]) -> Comparison
-    ensures { result ≡ comparison (reading first.now) (reading second.now) }
+#[tactic(auto, using(crate::proofs::Comparing::comparisons))]
+pub fn compare_stamps(first: &[u8], second: &[u8]) -> Result<Ordering, NotRead>
+    ensures { comparison_of result ≡ comparison (reading first.now) (reading second.now) }
 {
-    let a = read_stamp(first);
-    let b = read_stamp(second);
-    compare::compare_readings(a, b)
+    let a = read_stamp(first)?;
+    let b = read_stamp(second)?;
+    Ok(a.cmp(&b))
 }
 
-// Writes the stamp of a second in a zone: 0, or 19 with nothing written.
-pub fn write_stamp(bytes: &mut [u8], second: u32, zone: u32) -> u32
-    ensures number { result ≡ write_number bytes.old second zone }
+// Writes the stamp of a second in a zone, which is given by its code. On a refusal nothing is written.
+#[tactic(auto, using(crate::proofs::Writings::writings), unfolding(crate::specs::Stamp::stamp_of))]
+pub fn write_stamp(bytes: &mut [u8], second: u32, zone: u32) -> Result<(), NotWritten>
+    ensures number { writing_number result ≡ write_number bytes.old second zone }
     ensures stamp { bytes.new ≡ written bytes.old second zone }
 {
     if ALL_SECONDS <= second {
-        return NOT_WRITTEN;
+        return Err(NotWritten);
     }
-    if zone::ZONES <= zone {
-        return NOT_WRITTEN;
+    let place = Zone::try_from(zone)?;
+    let local = second.checked_sub(place.offset()).ok_or(NotWritten)?;
+    if bytes.len() != STAMP_LENGTH {
+        return Err(NotWritten);
     }
-    let offset = zone::offset_of(zone);
-    if second < offset {
-        return NOT_WRITTEN;
-    }
-    let length = bytes.len();
-    if length != STAMP_LENGTH {
-        return NOT_WRITTEN;
-    }
-    let table = table::month_table();
-    let f = write::fields_at(&table, second - offset, zone);
-    write::put_fields(bytes, f);
-    ACCEPTED
+    bytes.copy_from_slice(&Moment::at(local, place).to_bytes());
+    Ok(())
 }

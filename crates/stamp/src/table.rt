@@ -4,7 +4,7 @@ ghost use Rattle.stamp.specs.Steps.{MonthTable};
 // A number for each month.
 pub type Table = [u32; 1200];
 
-const DAYS_BEFORE: Table = [
+static DAYS_BEFORE: Table = [
     0, 31, 60, 91, 121, 152, 182, 213, 244, 274, 305, 335, 366, 397, 425, 456, 486, 517, 547, 578,
     609, 639, 670, 700, 731, 762, 790, 821, 851, 882, 912, 943, 974, 1004, 1035, 1065, 1096, 1127,
     1155, 1186, 1216, 1247, 1277, 1308, 1339, 1369, 1400, 1430, 1461, 1492, 1521, 1552, 1582, 1613,
@@ -95,9 +95,9 @@ const DAYS_BEFORE: Table = [
     36464, 36494,
 ];
 
-// The table: made once in each call from outside, and lent on.
-pub fn month_table() -> Table
-    ensures { MonthTable result }
+// The table, which lies in the program: no call makes its own.
+pub fn month_table() -> &'static Table
+    ensures { MonthTable result.now }
 {
-    DAYS_BEFORE
+    &DAYS_BEFORE
 }

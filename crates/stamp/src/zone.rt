@@ -1,47 +1,115 @@
 // The nine zones.
-ghost use Rattle.std.specs.Prelude.{◌≡◌, ◌<◌};
-ghost use Rattle.stamp.specs.Stamp.{zone_of, zone_count};
-ghost use Rattle.stamp.specs.Steps.{Letters, Offset};
+ghost use Rattle.std.specs.Prelude.{◌≡◌};
+ghost use Rattle.stamp.specs.Stamp.{zone_of, letters as letters_number, letters_of};
+ghost use Rattle.stamp.specs.Zones.{code, code_or_none, hours_behind, OfCode, Offset};
 
 use crate::HOUR;
+use std::error::Error;
+use std::fmt;
 
-// How many there are.
-pub const ZONES: u32 = 9;
+// In the order of their codes, 0 to 8: UT, ES, ED, CS, CD, MS, MD, PS, PD.
+#[derive(Clone, Copy, Debug, PartialEq, Eq)]
+pub enum Zone {
+    Universal,
+    EasternStandard,
+    EasternDaylight,
+    CentralStandard,
+    CentralDaylight,
+    MountainStandard,
+    MountainDaylight,
+    PacificStandard,
+    PacificDaylight,
+}
 
-// The letters of the zones, the first x 256 + the second, in the order of their codes: UT, ES, ED, CS, CD, MS, MD, PS, PD.
-const LETTERS: [u32; 9] = [
-    0x5554, 0x4553, 0x4544, 0x4353, 0x4344, 0x4d53, 0x4d44, 0x5053, 0x5044,
-];
+// A code that no zone has.
+#[derive(Clone, Copy, Debug, PartialEq, Eq)]
+pub struct UnknownZone(pub u32);
 
-// The hours that they are behind UT.
-const BEHIND: [u32; 9] = [0, 5, 4, 6, 5, 7, 6, 8, 7];
-
-// The code of the zone with these letters, or 9.
-pub fn zone_of(letters: u32) -> u32
-    ensures { result ≡ zone_of letters }
-{
-    let mut zone = 0;
-    while zone < ZONES {
-        if letters == LETTERS[zone as usize] {
-            return zone;
-        }
-        zone += 1;
+impl fmt::Display for UnknownZone {
+    fn fmt<W: fmt::Write>(&self, f: &mut fmt::Formatter<W>) -> fmt::Result {
+        write!(f, "no zone has code {}", self.0)
     }
-    ZONES
 }
 
-// The letters of a zone.
-pub fn letters_of(zone: u32) -> u32
-    requires { zone < zone_count }
-    ensures { Letters zone result }
-{
-    LETTERS[zone as usize]
+impl Error for UnknownZone {}
+
+impl TryFrom<u32> for Zone {
+    type Error = UnknownZone;
+
+    ghost try_from_gives = { OfCode };
+
+    fn try_from(code: u32) -> Result<Zone, UnknownZone> {
+        match code {
+            0 => Ok(Zone::Universal),
+            1 => Ok(Zone::EasternStandard),
+            2 => Ok(Zone::EasternDaylight),
+            3 => Ok(Zone::CentralStandard),
+            4 => Ok(Zone::CentralDaylight),
+            5 => Ok(Zone::MountainStandard),
+            6 => Ok(Zone::MountainDaylight),
+            7 => Ok(Zone::PacificStandard),
+            8 => Ok(Zone::PacificDaylight),
+            _ => Err(UnknownZone(code)),
+        }
+    }
 }
 
-// The seconds that a zone is behind UT.
-pub fn offset_of(zone: u32) -> u32
-    requires { zone < zone_count }
-    ensures { Offset zone result }
-{
-    BEHIND[zone as usize] * HOUR
+impl Zone {
+    // The zone with these letters.
+    #[tactic(auto, using(crate::proofs::Digits::zones_by_code))]
+    pub fn with_letters(first: u8, second: u8) -> Option<Zone>
+        ensures { code_or_none result ≡ zone_of (letters_number first second) }
+    {
+        match (first, second) {
+            (b'U', b'T') => Some(Zone::Universal),
+            (b'E', b'S') => Some(Zone::EasternStandard),
+            (b'E', b'D') => Some(Zone::EasternDaylight),
+            (b'C', b'S') => Some(Zone::CentralStandard),
+            (b'C', b'D') => Some(Zone::CentralDaylight),
+            (b'M', b'S') => Some(Zone::MountainStandard),
+            (b'M', b'D') => Some(Zone::MountainDaylight),
+            (b'P', b'S') => Some(Zone::PacificStandard),
+            (b'P', b'D') => Some(Zone::PacificDaylight),
+            _ => None,
+        }
+    }
+
+    #[tactic(auto, unfolding(crate::specs::Stamp::zone_letters))]
+    pub fn letters(self) -> [u8; 2]
+        ensures { result ≡ letters_of (code self) }
+    {
+        match self {
+            Zone::Universal => *b"UT",
+            Zone::EasternStandard => *b"ES",
+            Zone::EasternDaylight => *b"ED",
+            Zone::CentralStandard => *b"CS",
+            Zone::CentralDaylight => *b"CD",
+            Zone::MountainStandard => *b"MS",
+            Zone::MountainDaylight => *b"MD",
+            Zone::PacificStandard => *b"PS",
+            Zone::PacificDaylight => *b"PD",
+        }
+    }
+
+    // The hours that it is behind UT.
+    fn hours_behind(self) -> u32
+        ensures { result ≡ hours_behind (code self) }
+    {
+        match self {
+            Zone::Universal => 0,
+            Zone::EasternDaylight => 4,
+            Zone::EasternStandard | Zone::CentralDaylight => 5,
+            Zone::CentralStandard | Zone::MountainDaylight => 6,
+            Zone::MountainStandard | Zone::PacificDaylight => 7,
+            Zone::PacificStandard => 8,
+        }
+    }
+
+    // The seconds that it is behind UT.
+    #[tactic(auto, using(crate::proofs::Zones::hours_most), unfolding(crate::specs::Stamp::offset))]
+    pub fn offset(self) -> u32
+        ensures { Offset (code self) result }
+    {
+        self.hours_behind() * HOUR
+    }
 }

@@ -1,111 +1,81 @@
 // Reads and writes the time stamps that standard input lists, and compares each result with the one listed.
-// A line has a kind, R for read or W for written, the 16 bytes of the stamp, the number, the second and the zone. Other lines are comments.
-// The listed values were worked out with the datetime module of Python. A case that fails is printed; the counts come last.
+// A line has a kind, R for read or W for written; other lines are comments. The listed values were worked out with the
+// datetime module of Python. A case that fails is printed; the counts come last.
 #![tactic(auto)]
 
-mod line;
+mod case;
 
-ghost use Rattle.std.specs.Prelude.{◌≡◌, length};
-
-use line::LINE;
-use std::io::{self, Read, Write};
+use case::Case;
+use stamp::NotRead;
+use std::fmt;
+use std::io::{self, BufRead, BufReader};
 
 // The cases so far, of each kind, and those that failed.
-#[derive(Clone, Copy)]
+#[derive(Clone, Copy, Debug, Default, PartialEq, Eq)]
 struct Counts {
     read: u32,
     written: u32,
     failed: u32,
 }
 
-fn failures(rt: &impl Print, ok: bool, line: &[u8]) -> io::Result<u32> {
-    if ok {
-        return Ok(0);
+impl Counts {
+    fn count(&mut self, case: &Case<'_>) {
+        match case {
+            Case::Read { .. } => self.read = self.read.saturating_add(1),
+            Case::Written { .. } => self.written = self.written.saturating_add(1),
+        }
     }
-    let mut out = io::writer(rt);
-    out.write_all(b"fails: ")?;
-    out.write_all(line)?;
-    Ok(1)
-}
 
-// The counts with one line more.
-fn counted(rt: &impl Print, c: Counts, line: &[u8]) -> io::Result<Counts>
-    requires { length line.now ≡ 44 }
-{
-    let kind = line[0];
-    if kind == b'R' {
-        let failed = failures(rt, line::is_read(line), line)?;
-        return Ok(Counts {
-            read: plus(c.read, 1),
-            written: c.written,
-            failed: plus(c.failed, failed),
-        });
+    // Prints a case that fails, and counts it.
+    fn expect(&mut self, rt: &impl Print, holds: bool, what: &str) -> io::Result<()> {
+        if holds {
+            return Ok(());
+        }
+        self.failed = self.failed.saturating_add(1);
+        println!(rt; "fails: {what}")
     }
-    if kind == b'W' {
-        let failed = failures(rt, line::is_written(line), line)?;
-        return Ok(Counts {
-            read: c.read,
-            written: plus(c.written, 1),
-            failed: plus(c.failed, failed),
-        });
+
+    // A line that states no case fails.
+    fn check_line(&mut self, rt: &impl Print, line: &str) -> io::Result<()> {
+        let Some(case) = Case::of_line(line) else {
+            return self.expect(rt, false, line);
+        };
+        self.count(&case);
+        self.expect(rt, case.holds(), line)
     }
-    Ok(c)
-}
 
-fn plus(a: u32, b: u32) -> u32 {
-    a.wrapping_add(b)
-}
-
-fn all_counted(rt: &impl Print, input: &[u8]) -> io::Result<Counts> {
-    let mut c = Counts {
-        read: 0,
-        written: 0,
-        failed: 0,
-    };
-    for line in input.chunks_exact(LINE) {
-        c = counted(rt, c, line)?;
+    // Slices that are not of 16 bytes.
+    fn check_lengths(&mut self, rt: &impl Print) -> io::Result<()> {
+        for (stamp, what) in [
+            ("", "no byte"),
+            ("20070423060000E", "15 bytes"),
+            ("20070423060000ES0", "17 bytes"),
+            ("20070423060000ES20070423060000ES", "32 bytes"),
+        ] {
+            let read = stamp::read_stamp(stamp.as_bytes());
+            self.expect(rt, read == Err(NotRead), what)?;
+        }
+        self.expect(rt, case::is_kept(&mut [b'.'; 15]), "15 bytes written")?;
+        self.expect(rt, case::is_kept(&mut [b'.'; 17]), "17 bytes written")
     }
-    Ok(c)
 }
 
-// Slices that are not 16 bytes: the cases that fail.
-fn other_lengths(rt: &impl Print) -> io::Result<u32> {
-    let none = failures(rt, line::is_refused(b""), b"no byte\n")?;
-    let short = failures(rt, line::is_refused(b"20070423060000E"), b"15 bytes\n")?;
-    let long = failures(rt, line::is_refused(b"20070423060000ES0"), b"17 bytes\n")?;
-    let twice = failures(
-        rt,
-        line::is_refused(b"20070423060000ES20070423060000ES"),
-        b"32 bytes\n",
-    )?;
-    let mut few = [b'.'; 15];
-    let kept = failures(
-        rt,
-        line::is_kept(&mut few, b"..............."),
-        b"15 bytes written\n",
-    )?;
-    let mut many = [b'.'; 17];
-    let whole = failures(
-        rt,
-        line::is_kept(&mut many, b"................."),
-        b"17 bytes written\n",
-    )?;
-    Ok(plus(
-        plus(plus(none, short), plus(long, twice)),
-        plus(kept, whole),
-    ))
-}
-
-fn print(rt: &impl Print, what: &str, count: u32) -> io::Result<()> {
-    println!(rt; "{what} {count}")
+impl fmt::Display for Counts {
+    fn fmt<W: fmt::Write>(&self, f: &mut fmt::Formatter<W>) -> fmt::Result {
+        writeln!(f, "read {}", self.read)?;
+        writeln!(f, "written {}", self.written)?;
+        write!(f, "failed {}", self.failed)
+    }
 }
 
 fn main(rt: HostRuntime) -> io::Result<()> {
-    let mut input = Vec::new(rt.alloc());
-    rt.reader().read_to_end(&mut input)?;
-    let c = all_counted(&rt, &input)?;
-    let other = other_lengths(&rt)?;
-    print(&rt, "read", c.read)?;
-    print(&rt, "written", c.written)?;
-    print(&rt, "failed", plus(c.failed, other))
+    let mut counts = Counts::default();
+    for line in BufReader::new(rt.alloc(), rt.reader())?.lines(rt.alloc()) {
+        let line = line?;
+        if line.starts_with('R') || line.starts_with('W') {
+            counts.check_line(&rt, &line)?;
+        }
+    }
+    counts.check_lengths(&rt)?;
+    println!(rt; "{counts}")
 }

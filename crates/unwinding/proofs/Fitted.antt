@@ -2,42 +2,44 @@
 use mathlib.Core.Path.{◌≡◌, sym, ap, ◌∙◌}
 use mathlib.Core.Bool.{Bool, true, false, not, ◌||◌}
 use mathlib.Core.List.{List}
-use Prim.Native.Nat.{ℕ, ◌+◌, ◌-◌, ◌<◌}
+use Prim.Native.Nat.{ℕ, ◌+◌, ◌<◌}
 use native.Mathlib.Omega.{arith}
 use lib.Dec.{leb, lit<}
-use lib.ListN.{length, get_or, take, drop}
+use lib.ListN.{length, get_or}
 use Rattle.words.specs.Lists.{word_at, all_below, within}
 use Rattle.words.proofs.Laws.{all_cong, every_below}
 use Rattle.rules.specs.Pick.{pick}
 use Rattle.rules.specs.Numbers.{most_megawatts, granted_part, available_part, displaced_part}
-use Rattle.rules.specs.Layout.{used, row, row_size, hour_at}
+use Rattle.rules.specs.Layout.{used, row, hour_at, hours_of}
 use Rattle.rules.specs.Moves.{is_confirmed}
 use Rattle.rules.proofs.Unwound.{given_back, fits_in}
 use Rattle.layout.specs.SoundAt.{SoundAt}
-use Rattle.layout.specs.Places.{RowAt, HoursAt}
 use Rattle.paths.specs.Changes.{Adds, Summed}
 use Rattle.opening.specs.Shares.{most_sum, Sums}
-use Rattle.opening.proofs.Added.{hours_at, word_most, sums_after, lent_hours}
+use Rattle.opening.proofs.Added.{hours_at, hours_long, word_most, sums_after}
 use Rattle.unwinding.specs.Order.{all_fit}
 use Rattle.unwinding.specs.Marks.{marked, Marks}
+use Rattle.unwinding.specs.declared.ledger.Ledger.{Ledger}
+use Rattle.unwinding.proofs.Counted.{in_use}
 use Rattle.unwinding.proofs.Marked.{marks_gone}
 use Rattle.unwinding.proofs.GivenBack.{back_sums}
 
+-- ---- granted of row n, as it is lent, against sums
+module _ (l : Ledger) {n : ℕ} (lt : n < l.used) {own : List ℕ}
+    (is : own ≡ hours_of l.size.hours granted_part 0 l.size.hours (row l.size.hours l.words.now n))
+    (sums : List ℕ) (long : length sums ≡ l.size.hours) where
+  pub granted_long : length own ≡ length sums
+  granted_long = ap length is ∙ hours_long l.sound_at n granted_part (in_use l lt) (lit< tt) ∙ sym long
+
+  pub granted_lent : let H = l.size.hours in all_below (length sums) (λ h. leb (word_at sums h) (most_megawatts + word_at own h))
+      ≡ all_below H (λ h. leb (word_at sums h) (most_megawatts + word_at (row H l.words.now n) (hour_at H granted_part h)))
+  granted_lent =
+      ap (λ (k : ℕ). all_below k (λ h. leb (word_at sums h) (most_megawatts + word_at own h))) long
+      ∙ all_cong _ _ l.size.hours (λ h hlt.
+      ap (λ (v : ℕ). leb (word_at sums h) (most_megawatts + v))
+      (ap (λ (v : List ℕ). word_at v h) is ∙ hours_at l.sound_at n granted_part (in_use l lt) (lit< tt) h hlt))
+
 module _ {l : List ℕ} {R H : ℕ} (s : SoundAt l R H) where
-  -- ---- granted of row n, as it is lent
-  module _ {n at from : ℕ} (a : RowAt R H n at) (f : HoursAt H granted_part 0 H from) where
-    abbrev own : List ℕ
-    own = take (from + H - from) (drop from (take (at + row_size H - at) (drop at l)))
-
-    pub granted_lent : n < used l → (sums : List ℕ) → length sums ≡ H
-        → all_below (length sums) (λ h. leb (word_at sums h) (most_megawatts + word_at own h))
-        ≡ all_below H (λ h. leb (word_at sums h) (most_megawatts + word_at (row H l n) (hour_at H granted_part h)))
-    granted_lent lt sums e =
-        ap (λ (k : ℕ). all_below k (λ h. leb (word_at sums h) (most_megawatts + word_at own h))) e
-        ∙ all_cong _ _ H (λ h hlt.
-        ap (λ (v : ℕ). leb (word_at sums h) (most_megawatts + v))
-        (ap (λ (v : List ℕ). word_at v h) (lent_hours s a f) ∙ hours_at s n granted_part lt (lit< tt) h hlt))
-
   -- ---- what came back to row p
   module _ (gone : ℕ → Bool) (p : ℕ) {one : List ℕ} (o : Summed H (λ h. given_back H l gone p h) one) where
     abbrev b : ℕ → ℕ
@@ -85,9 +87,6 @@ module _ {l : List ℕ} {R H : ℕ} (s : SoundAt l R H) where
 
       -- with its available as well
       module _ {three : List ℕ} (a : Adds (λ h. word_at (row H l p) (hour_at H available_part h)) two three) where
-        pub all_long : length three ≡ H
-        all_long = a.long ∙ held_long
-
         all_held : (h : ℕ) → h < H → get_or three h 0 ≡ w displaced_part h + w available_part h + b h
         all_held h lt = omega (arith, held_at h lt, a.each h (omega (arith, lt, held_long)))
 
@@ -99,9 +98,10 @@ module _ {l : List ℕ} {R H : ℕ} (s : SoundAt l R H) where
             ap (λ (v : ℕ). leb v (most_megawatts + w granted_part h)) (all_held h lt) ∙ confirmed_at c h)
 
 -- ---- all rows of the references are marked
-pub fits_told : (H : ℕ) (l : List ℕ) {refs marks : List ℕ} (late : ℕ → Bool) {u : ℕ}
+pub fits_told : (H : ℕ) (l : List ℕ) {refs : List ℕ} {marks : List Bool} (late : ℕ → Bool) {u : ℕ}
     → u ≡ used l → Marks refs marks (length refs) → {b : Bool}
-    → b ≡ all_below u (λ p. not (late p) || all_below H (λ h. fits_in H l (marked marks) p h)) → b ≡ all_fit H l refs late
+    → b ≡ all_below u (λ p. not (late p) || all_below H (λ h. fits_in H l (marked marks) p h))
+    → b ≡ all_fit H l refs late
 unfolding all_fit
 fits_told H l {refs} {marks} late e m q =
     q

@@ -1,5 +1,5 @@
 -- Use of a path followed as a row goes: what is freed, what is shifted, and the sums after it.
-use mathlib.Core.Path.{◌≡◌, refl, sym, ap, subst, ◌∙◌}
+use mathlib.Core.Path.{◌≡◌, sym, ap, subst, ◌∙◌}
 use mathlib.Core.Logic.{◌≢◌}
 use mathlib.Core.Bool.{Bool, true, false, ◌&&◌}
 use mathlib.Core.List.{List}
@@ -8,42 +8,65 @@ use native.Mathlib.Decide.{ℕ_discrete}
 use native.Mathlib.Nat.{mul-le-mul_right}
 use native.Mathlib.Omega.{arith}
 use lib.Dec.{leb}
-use lib.ListN.{length, get_or, set}
+use lib.ListN.{length, get_or}
 use borrow.Author.Tests.{eq-eqb, ne_eqb, le-leb}
 use Rattle.words.specs.Lists.{word_at, sum_below, zip2, covered}
 use Rattle.words.proofs.Laws.{all_below_lem, sum_none, sum_more, build_at, zip_length}
 use Rattle.rules.specs.Pick.{pick}
-use Rattle.rules.specs.Numbers.{profiles, most_megawatts, granted_part, available_part}
+use Rattle.rules.specs.Numbers.{most_megawatts, granted_part, available_part}
 use Rattle.rules.specs.Layout.{used, row, path, related_row, hour_at, hours_of}
 use Rattle.rules.specs.Moves.{is_confirmed}
 use Rattle.rules.proofs.After.{counts_by}
 use Rattle.rules.proofs.Unwound.{adding, stays, gives, use_unwound}
 use Rattle.layout.specs.SoundAt.{SoundAt}
-use Rattle.paths.specs.Changes.{Adds, Takes, Summed}
+use Rattle.layout.specs.Profiles.{part_of}
+use Rattle.layout.specs.declared.profile.Profile.{Profile}
+use Rattle.layout.proofs.Profiles.{part_below}
+use Rattle.paths.specs.Changes.{Takes, Summed}
 use Rattle.opening.specs.Shares.{most_sum, Sums}
 use Rattle.opening.proofs.Added.{few, hours_at, hours_long}
 use Rattle.unwinding.specs.Order.{freed, freed_below, freed_use, returned}
 use Rattle.unwinding.specs.Marks.{marked, Going}
 use Rattle.unwinding.specs.Uses.{Holding, Lacking, Freeing, Shifted}
-use Rattle.unwinding.proofs.Marked.{marked_more}
+use Rattle.unwinding.specs.declared.ledger.Ledger.{Ledger}
+use Rattle.unwinding.proofs.Counted.{in_use}
 use Rattle.unwinding.proofs.Steps.{use_next, lost_most, use_open, use_most}
 
 -- ---- a profile taken off
-module _ {l : List ℕ} {R H : ℕ} (s : SoundAt l R H) (n p : ℕ) (lt : n < used l) (plt : p < profiles) {sums : List ℕ} (o : Holding H (λ h. word_at (row H l n) (hour_at H p h)) sums) where
-  pub hours_held : covered (hours_of H p 0 H (row H l n)) sums ≡ true
+module _ (l : Ledger) (n : ℕ) (p : Profile) (lt : n < l.used) {sums : List ℕ}
+    (o : Holding l.size.hours (λ h. word_at (row l.size.hours l.words.now n) (hour_at l.size.hours (part_of p) h)) sums) where
+  abbrev H : ℕ
+  H = l.size.hours
+
+  abbrev own : List ℕ
+  own = hours_of l.size.hours (part_of p) 0 l.size.hours (row l.size.hours l.words.now n)
+
+  own_long : length own ≡ H
+  own_long = hours_long l.sound_at n (part_of p) (in_use l lt) (part_below p)
+
+  own_at : (h : ℕ) → h < H → word_at own h ≡ word_at (row H l.words.now n) (hour_at H (part_of p) h)
+  own_at = hours_at l.sound_at n (part_of p) (in_use l lt) (part_below p)
+
+  pub hours_fit : length own ≡ length sums
+  hours_fit = own_long ∙ sym o.long
+
+  pub hours_held : covered own sums ≡ true
   unfolding covered
   hours_held =
-      all_below_lem (λ h. leb (word_at (hours_of H p 0 H (row H l n)) h) (word_at sums h)) (length (hours_of H p 0 H (row H l n)))
-      (λ h hlt. let k : h < H = omega (arith, hlt, hours_long s n p lt plt) in le-leb (word_at (hours_of H p 0 H (row H l n)) h) (word_at sums h) (omega (arith, hours_at s n p lt plt h k, o.enough h k)))
+      all_below_lem (λ h. leb (word_at own h) (word_at sums h)) (length own)
+      (λ h hlt.
+      let k : h < H = omega (arith, hlt, own_long) in
+      le-leb (word_at own h) (word_at sums h) (omega (arith, own_at h k, o.enough h k)))
 
-  pub hours_taken : {next : List ℕ} → next ≡ zip2 ◌-◌ sums (hours_of H p 0 H (row H l n)) → Takes (λ h. word_at (row H l n) (hour_at H p h)) sums next
+  pub hours_taken : {next : List ℕ} → next ≡ zip2 ◌-◌ sums own
+      → Takes (λ h. word_at (row l.size.hours l.words.now n) (hour_at l.size.hours (part_of p) h)) sums next
   unfolding zip2
   hours_taken e = record {
-    long = ap length e ∙ zip_length ◌-◌ sums (hours_of H p 0 H (row H l n));
+    long = ap length e ∙ zip_length ◌-◌ sums own;
     each = λ h hlt.
         ap (λ (x : List ℕ). get_or x h 0) e
         ∙ build_at (length sums) _ h hlt
-        ∙ ap (λ (x : ℕ). get_or sums h 0 - x) (hours_at s n p lt plt h (omega (arith, hlt, o.long)));
+        ∙ ap (λ (x : ℕ). get_or sums h 0 - x) (own_at h (omega (arith, hlt, o.long)));
   }
 
 -- ---- rows freed, one after another
@@ -171,21 +194,6 @@ module _ {l : List ℕ} {R H : ℕ} (s : SoundAt l R H) {gone : ℕ → Bool} {n
       }
 
 -- granted of row n came back, by the marks with its own
-pub came_is : (H : ℕ) (l marks : List ℕ) (x n : ℕ) → n < length marks → {b : Bool} → b ≡ (gives H l n && counts_by H l (stays H l (marked (set marks n 1))) x (related_row H l n)) → b ≡ returned H l (marked marks) x n
+pub came_is : (H : ℕ) (l : List ℕ) (gone : ℕ → Bool) (x n : ℕ) (marks : List Bool) → marked marks ≡ adding gone n → {b : Bool} → b ≡ (gives H l n && counts_by H l (stays H l (marked marks)) x (related_row H l n)) → b ≡ returned H l gone x n
 unfolding returned
-came_is H l marks x n lt e = e ∙ ap (λ (gone : ℕ → Bool). gives H l n && counts_by H l (stays H l gone) x (related_row H l n)) (marked_more marks n lt)
-
--- ---- shifted, way by way
-module _ {f : ℕ → ℕ} {sums : List ℕ} where
-  pub shifted_not : (b : Bool) → Shifted f b b sums sums
-  shifted_not b = record { long = refl; each = λ h lt. refl }
-
-  pub shifted_off : {next : List ℕ} {H : ℕ} → Holding H f sums → Takes f sums next → Shifted f true false sums next
-  shifted_off o t = record { long = t.long; each = λ h lt. omega (arith, t.each h lt, o.enough h (omega (arith, lt, o.long))) }
-
-  pub shifted_on : {next : List ℕ} → Adds f sums next → Shifted f false true sums next
-  shifted_on a = record { long = a.long; each = λ h lt. omega (arith, a.each h lt) }
-
-  pub shifted_as : {b b' c c' : Bool} {next : List ℕ} → b ≡ b' → c ≡ c' → Shifted f b' c' sums next → Shifted f b c sums next
-  shifted_as {b} {b'} {c} {c'} {next} e g S =
-      subst (λ (t : Bool). Shifted f t c sums next) (sym e) (subst (λ (t : Bool). Shifted f b' t sums next) (sym g) S)
+came_is H l gone x n marks a e = e ∙ ap (λ (g : ℕ → Bool). gives H l n && counts_by H l (stays H l g) x (related_row H l n)) a

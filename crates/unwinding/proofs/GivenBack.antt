@@ -1,6 +1,6 @@
 -- What was given back to a row, added up over the rows; 15 by the sums.
 use mathlib.Core.Path.{◌≡◌, sym, ap, ◌∙◌}
-use mathlib.Core.Bool.{Bool, true, false, ◌&&◌}
+use mathlib.Core.Bool.{Bool, ◌&&◌}
 use mathlib.Core.List.{List}
 use Prim.Native.Nat.{ℕ, ◌+◌, ◌*◌, ◌≤◌, ◌<◌, zero-le}
 use native.Mathlib.Nat.{mul-le-mul_right}
@@ -9,7 +9,6 @@ use lib.Dec.{eqb, lit<}
 use lib.ListN.{length, get_or}
 use Rattle.words.specs.Lists.{word_at, all_below, sum_below, noughts}
 use Rattle.words.proofs.Laws.{all_cong, sum_none, sum_more, sum_bound, noughts_length, noughts_at}
-use Rattle.rules.specs.Pick.{pick}
 use Rattle.rules.specs.Numbers.{most_rows, most_megawatts, granted_part, available_part}
 use Rattle.rules.specs.Layout.{used, row, hour_at}
 use Rattle.rules.proofs.Unwound.{gives_to, gave_to, given_back, whole_again}
@@ -17,26 +16,7 @@ use Rattle.layout.specs.SoundAt.{SoundAt}
 use Rattle.paths.specs.Changes.{Adds, Summed}
 use Rattle.opening.specs.Shares.{Sums}
 use Rattle.opening.proofs.Added.{few, word_most}
-
--- ---- what row j gave, by its mark and whether it gives to row m
-module _ (H : ℕ) (l : List ℕ) (gone : ℕ → Bool) (m j : ℕ) where
-  pub gave : gone j ≡ true → gives_to H l j m ≡ true
-      → (h : ℕ) → word_at (row H l j) (hour_at H granted_part h) ≡ gave_to H l gone m h j
-  gave g t h =
-      sym (ap (λ (b : Bool). pick (b && gives_to H l j m) (word_at (row H l j) (hour_at H granted_part h)) 0) g
-      ∙ ap (λ (b : Bool). pick b (word_at (row H l j) (hour_at H granted_part h)) 0) t)
-
-  pub gave_unmarked : gone j ≡ false → (h : ℕ) → gave_to H l gone m h j ≡ 0
-  gave_unmarked g h = ap (λ (b : Bool). pick (b && gives_to H l j m) (word_at (row H l j) (hour_at H granted_part h)) 0) g
-
-  pub gave_nothing : gone j ≡ true → gives_to H l j m ≡ false → (h : ℕ) → gave_to H l gone m h j ≡ 0
-  gave_nothing g t h =
-      ap (λ (b : Bool). pick (b && gives_to H l j m) (word_at (row H l j) (hour_at H granted_part h)) 0) g
-      ∙ ap (λ (b : Bool). pick b (word_at (row H l j) (hour_at H granted_part h)) 0) t
-
-pick_most : (b : Bool) {u v k : ℕ} → u ≤ k → v ≤ k → pick b u v ≤ k
-pick_most true p q = p
-pick_most false p q = q
+use Rattle.unwinding.proofs.Steps.{pick_most}
 
 module _ {l : List ℕ} {R H : ℕ} (s : SoundAt l R H) where
   gave_most : (gone : ℕ → Bool) (m : ℕ) {j h : ℕ} → j < used l → h < H → gave_to H l gone m h j ≤ most_megawatts
@@ -48,14 +28,14 @@ pub record Backing (H : ℕ) (l : List ℕ) (gone : ℕ → Bool) (m : ℕ) (sum
   pub long : length sums ≡ H
   pub each : (h : ℕ) → h < H → get_or sums h 0 ≡ sum_below j (λ k. gave_to H l gone m h k)
 
-pub backing_start : (H : ℕ) (l : List ℕ) (gone : ℕ → Bool) (m : ℕ) (sums : List ℕ) {next : List ℕ}
-    → length sums ≡ H → next ≡ noughts (length sums) → Backing H l gone m next 0
-backing_start H l gone m sums long e = record {
+pub backing_start : (H : ℕ) (l : List ℕ) (gone : ℕ → Bool) (m : ℕ) {sums : List ℕ}
+    → sums ≡ noughts H → Backing H l gone m sums 0
+backing_start H l gone m e = record {
   below = zero-le;
-  long = ap length e ∙ noughts_length (length sums) ∙ long;
+  long = ap length e ∙ noughts_length H;
   each = λ h lt.
       ap (λ (v : List ℕ). get_or v h 0) e
-      ∙ noughts_at (length sums) h
+      ∙ noughts_at H h
       ∙ sym (sum_none (λ k. gave_to H l gone m h k));
 }
 

@@ -1,11 +1,11 @@
 -- The three passes together, for H hours, and a list that is judged before any.
 use mathlib.Core.Path.{◌≡◌, refl, sym, ap, subst, ◌∙◌}
-use mathlib.Core.Logic.{◌≢◌}
 use mathlib.Core.Bool.{Bool, true, false, ◌&&◌}
 use mathlib.Core.List.{List, [], ◌∷◌}
 use Prim.Native.Nat.{ℕ, ◌*◌, ◌≤◌}
 use native.Mathlib.Omega.{arith}
 use lib.ListN.{length}
+use Rattle.std.specs.Bool.{◌==◌}
 use Rattle.words.proofs.Laws.{and_left, and_right}
 use Rattle.rules.specs.Layout.{rows, hours}
 use Rattle.rules.specs.Sound.{sound}
@@ -22,9 +22,12 @@ use Rattle.unwinding.specs.Marks.{marked, Late}
 use Rattle.unwinding.proofs.Passes.{unmovable, by_passes}
 
 module _ (l ps : List ℕ) (both : sound_both l ps ≡ true) where
-  pub sound_at : SoundAt l (rows l) (hours l)
+  pub sound_one : sound l ≡ true
   unfolding sound_both
-  sound_at = record { sound = sound_facts (and_left _ _ both); rows = refl; hours = refl }
+  sound_one = and_left _ _ both
+
+  pub sound_at : SoundAt l (rows l) (hours l)
+  sound_at = record { sound = sound_facts sound_one; rows = refl; hours = refl }
 
   module _ {R H : ℕ} (s : SoundAt l R H) where
     pub postings_at : Postings H ps
@@ -40,7 +43,7 @@ module _ (l ps : List ℕ) (both : sound_both l ps ≡ true) where
       moved_not e = sym (unmovable l ps refs both (ap (λ (k : ℕ). all_movable k l refs) (sym s.hours) ∙ e))
 
       -- it says yes
-      module _ (go : all_movable H l refs ≡ true) {late : List ℕ} (L : Late H l refs late (length refs)) where
+      module _ (go : all_movable H l refs ≡ true) {late : List Bool} (L : Late H l refs late (length refs)) where
         by_two : annuls_in_order l ps refs ≡ (all_fit H l refs (marked late) && paths_carry H l ps refs)
         by_two =
             subst (λ (k : ℕ). all_movable k l refs ≡ true → Late k l refs late (length refs) → annuls_in_order l ps refs ≡ (all_fit k l refs (marked late) && paths_carry k l ps refs))
@@ -53,17 +56,17 @@ module _ (l ps : List ℕ) (both : sound_both l ps ≡ true) where
         carried_is e q = q ∙ sym (by_two ∙ ap (λ (b : Bool). b && paths_carry H l ps refs) e)
 
 -- ---- before the passes: no reference; words that are not sound, with one
-pub none_listed : (l ps refs : List ℕ) → length refs ≡ 0 → true ≡ annuls_in_order l ps refs
+pub none_listed : (l ps refs : List ℕ) → (length refs == 0) ≡ true → true ≡ annuls_in_order l ps refs
 unfolding annuls_in_order
 none_listed l ps [] e = refl
-none_listed l ps (r ∷ rs) e = absurd (omega (arith, e))
+none_listed l ps (r ∷ rs) e = absurd (grind (arith, e))
 
-pub unsound_not : (l ps refs : List ℕ) → length refs ≢ 0 → sound_both l ps ≡ false → false ≡ annuls_in_order l ps refs
-unsound_not l ps [] ne s = absurd (ne refl)
+pub unsound_not : (l ps refs : List ℕ) → (length refs == 0) ≡ false → sound_both l ps ≡ false → false ≡ annuls_in_order l ps refs
+unsound_not l ps [] ne s = absurd (grind (arith, ne))
 unsound_not l ps (r ∷ rs) ne s = sym (annuls_unsound l ps r rs s)
 
 -- a sound ledger has a head, so its rows used can be read
-pub no_head : (l ps refs : List ℕ) → length refs ≢ 0 → length l ≤ 6 → false ≡ annuls_in_order l ps refs
+pub no_head : (l ps refs : List ℕ) → (length refs == 0) ≡ false → length l ≤ 6 → false ≡ annuls_in_order l ps refs
 no_head l ps refs ne le = unsound_not l ps refs ne (go (sound_both l ps) refl)
   where
     go : (b : Bool) → sound_both l ps ≡ b → b ≡ false

@@ -1,3 +1,4 @@
+pub mod Every
 pub mod Passes
 pub mod Steps
 pub mod Counted

@@ -21,7 +21,7 @@ use Rattle.rules.proofs.SoundFacts.{SoundLedger}
 use Rattle.rules.proofs.Types.{derived_least}
 use Rattle.rules.proofs.Tests.{sums, picked}
 use Rattle.rules.proofs.After.{counts_by}
-use Rattle.rules.proofs.Unwound.{adding, stays, gives, gives_to, gave_to, given_back, returns_on, used_by, use_unwound, whole_again, back_more, by, and_false, and_true}
+use Rattle.rules.proofs.Unwound.{adding, stays, gives, gives_to, given_back, returns_on, used_by, use_unwound, whole_again, back_more, by, and_false, and_true}
 use Rattle.rules.proofs.UnwoundUse.{one_row, use_sums}
 use Rattle.unwinding.specs.Order.{freed, freed_below, freed_use, returned}
 use Rattle.unwinding.specs.Marks.{Going}
@@ -317,7 +317,7 @@ module _ {l : List ℕ} (S : SoundLedger l) {gone : ℕ → Bool} {n : ℕ} (G :
       by_row m s back = pick (counts_by H l s x m) (a m) (pick back (g m) 0)
 
 -- ---- each use is at most 100,000 for each row
-pick_most : (b : Bool) {u v k : ℕ} → u ≤ k → v ≤ k → pick b u v ≤ k
+pub pick_most : (b : Bool) {u v k : ℕ} → u ≤ k → v ≤ k → pick b u v ≤ k
 pick_most true p q = p
 pick_most false p q = q
 
@@ -329,9 +329,3 @@ module _ {l : List ℕ} (S : SoundLedger l) (gone : ℕ → Bool) where
       pick_most (counts_by (hours l) l (stays (hours l) l gone) x m)
       ((S.profiles m lt).most available_part h (lit< tt) hlt)
       (pick_most (returns_on (hours l) l gone x m) ((S.profiles m lt).most granted_part h (lit< tt) hlt) (omega arith)))
-
-  pub back_most : (m : ℕ) {h : ℕ} → h < hours l → given_back (hours l) l gone m h ≤ used l * most_megawatts
-  unfolding given_back
-  back_most m {h} hlt =
-      sum_bound (used l) most_megawatts (λ j. gave_to (hours l) l gone m h j) (λ j lt.
-      pick_most (gone j && gives_to (hours l) l j m) ((S.profiles j lt).most granted_part h (lit< tt) hlt) (omega arith))

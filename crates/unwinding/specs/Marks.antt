@@ -1,24 +1,22 @@
--- For contracts inside the crate: a word for each row, 0 while it is not annulled, and what is known before a row goes.
--- No promise to the outside names these.
-use Rattle.std.specs.Prelude.{◌≡◌, ◌≢◌, Bool, true, false, not, List, ℕ, ◌<◌, eqb, length}
+-- For contracts inside the crate: a mark for each row that is annulled, and what is known before a row goes. No promise
+-- to the outside names these.
+use Rattle.std.specs.Prelude.{◌≡◌, ◌≢◌, Bool, true, false, List, ℕ, ◌<◌, get_or}
 use Rattle.words.specs.Lists.{word_at}
-use Rattle.rules.specs.Numbers.{most_rows, RELINQUISH}
+use Rattle.rules.specs.Numbers.{RELINQUISH}
 use Rattle.rules.specs.Layout.{used, row_of, row, reqtype, related_row}
 use Rattle.rules.specs.Moves.{is_confirmed}
 use Rattle.rules.proofs.Unwound.{gone_at, stays, whole_again}
 use Rattle.unwinding.specs.Order.{gives_late}
 
-unfoldable pub marked : List ℕ → ℕ → Bool
-marked marks m = not (eqb (word_at marks m) 0)
+unfoldable pub marked : List Bool → ℕ → Bool
+marked marks m = get_or marks m false
 
 -- the rows of the first k references are marked, and no other
-pub record Marks (refs marks : List ℕ) (k : ℕ) : Type 0 where
-  pub long : length marks ≡ most_rows
+pub record Marks (refs : List ℕ) (marks : List Bool) (k : ℕ) : Type 0 where
   pub is : (m : ℕ) → marked marks m ≡ gone_at refs k m
 
 -- each row that was given something back late by one of them is marked, and none that is still CONFIRMED
-pub record Late (H : ℕ) (l refs late : List ℕ) (k : ℕ) : Type 0 where
-  pub long : length late ≡ most_rows
+pub record Late (H : ℕ) (l refs : List ℕ) (late : List Bool) (k : ℕ) : Type 0 where
   pub all : (j : ℕ) → j < k → gives_late H l (gone_at refs j) (row_of (word_at refs j)) ≡ true
       → marked late (related_row H l (row_of (word_at refs j))) ≡ true
   pub off : (p : ℕ) → marked late p ≡ true → stays H l (gone_at refs k) p ≡ false

@@ -1,111 +1,79 @@
 // The second pass: the last 1 of each row that was given something back late.
 ghost use Rattle.std.specs.Prelude.{◌≡◌, not, ◌||◌, ◌+◌, ◌<◌, leb, length};
 ghost use Rattle.words.specs.Lists.{word_at, all_below};
-ghost use Rattle.rules.specs.Numbers.{most_rows, most_megawatts, granted_part};
-ghost use Rattle.rules.specs.Layout.{used as used_rows, row, hour_at};
+ghost use Rattle.rules.specs.Numbers.{most_megawatts, granted_part};
+ghost use Rattle.rules.specs.Layout.{row, hour_at};
 ghost use Rattle.rules.proofs.Unwound.{fits_in};
-ghost use Rattle.layout.specs.SoundAt.{SoundAt};
 ghost use Rattle.unwinding.specs.Order.{all_fit};
 ghost use Rattle.unwinding.specs.Marks.{marked, Marks};
 
-use crate::backs::sum_back;
-use layout::numbers::{
-    AVAILABLE_PART, DISPLACED_PART, GRANTED_PART, MOST_MEGAWATTS, PROFILES, ROW_WORDS,
-};
-use layout::rows::{hours_at, row_at};
-use megawatts::reading::is_confirmed;
+use crate::ledger::Ledger;
+use crate::marks::RowMarks;
+use crate::moving::Moved;
+use layout::numbers::{MOST_HOURS, MOST_MEGAWATTS};
+use layout::profile::Profile;
 use opening::sums::add_hours;
 
-// Each of the sums is at most 100,000 more than the word of v.
+// Each of the sums is at most 100,000 more than the word of v. The fold goes over all, so that several are tested at a
+// time.
 fn within_beyond(sums: &[u32], v: &[u32]) -> bool
     requires { length v.now ≡ length sums.now }
     ensures { result ≡ all_below (length sums.now) (λ h. leb (word_at sums.now h) (most_megawatts + word_at v.now h)) }
 {
-    let mut ok = true;
-    for h in 0..sums.len() {
-        ok = ok & (sums[h] as u64 <= MOST_MEGAWATTS as u64 + v[h] as u64);
+    sums.iter().zip(v).fold(
+        true,
+        |ok, (sum, own)| ok & (u64::from(*sum) <= u64::from(MOST_MEGAWATTS) + u64::from(*own)),
+    )
+}
+
+impl<'a> Ledger<'a> {
+    // Of granted of row p.
+    fn within_granted(self, sums: &[u32], p: usize) -> bool
+        requires p_bound { p < self.used }
+        requires sums_len { length sums.now ≡ self.size.hours }
+        ensures { let hours = self.entry.size.hours in
+            let words = self.entry.words.now in
+            let own = row hours words p in
+            result ≡ all_below hours (λ h.
+            leb (word_at sums.now h) (most_megawatts + word_at own (hour_at hours granted_part h))) }
+    {
+        within_beyond(sums, self.hours(p, Profile::Granted))
     }
-    ok
-}
 
-// Of granted of row p.
-fn within_granted(sums: &[u32], l: &[u32], rows: usize, hours: usize, p: usize) -> bool
-    requires sound_at { SoundAt l.now rows hours }
-    requires p_bound { (p < used_rows l.now) × (length sums.now ≡ hours) }
-    ensures { result ≡ all_below hours (λ h. leb (word_at sums.now h) (most_megawatts + word_at (row hours l.now p) (hour_at hours granted_part h))) }
-{
-    let at = row_at(rows, hours, p);
-    let size = ROW_WORDS + PROFILES * hours;
-    let r = &l[at..at + size];
-    let from = hours_at(hours, GRANTED_PART, 0, hours);
-    within_beyond(sums, &r[from..from + hours])
-}
-
-// What came back to row p, which is not CONFIRMED any more, is within the bound.
-fn fits(
-    sums: &mut [u32],
-    l: &[u32],
-    marks: &[u32],
-    rows: usize,
-    hours: usize,
-    used: usize,
-    p: usize,
-) -> bool
-    requires sound_at { SoundAt l.now rows hours }
-    requires used_value { (used ≡ used_rows l.now) × (length marks.now ≡ most_rows) × (length sums.old ≡ hours) }
-    requires p_bound { p < used_rows l.now }
-    ensures { result ≡ all_below hours (λ h. fits_in hours l.now (marked marks.now) p h) }
-{
-    sum_back(sums, l, marks, rows, hours, used, p);
-    add_hours(sums, l, rows, hours, p, DISPLACED_PART);
-    if !is_confirmed(l, rows, hours, p) {
-        return words::all_within(MOST_MEGAWATTS, &sums[..]);
-    }
-    add_hours(sums, l, rows, hours, p, AVAILABLE_PART);
-    within_granted(&sums[..], l, rows, hours, p)
-}
-
-fn fits_late(
-    sums: &mut [u32],
-    l: &[u32],
-    marks: &[u32],
-    late: &[u32],
-    rows: usize,
-    hours: usize,
-    used: usize,
-    p: usize,
-) -> bool
-    requires sound_at { SoundAt l.now rows hours }
-    requires used_value { (used ≡ used_rows l.now) × (length marks.now ≡ most_rows) × (length sums.old ≡ hours) }
-    requires p_bound { (p < used_rows l.now) × (length late.now ≡ most_rows) }
-    ensures { result ≡ (not (marked late.now p) || all_below hours (λ h. fits_in hours l.now (marked marks.now) p h)) }
-{
-    if late[p] == 0 {
-        return true;
-    }
-    fits(sums, l, marks, rows, hours, used, p)
-}
-
-// All rows of the references are marked.
-pub fn all_fit(
-    sums: &mut [u32],
-    l: &[u32],
-    marks: &[u32],
-    late: &[u32],
-    refs: &[u32],
-    rows: usize,
-    hours: usize,
-    used: usize,
-) -> bool
-    requires sound_at { SoundAt l.now rows hours }
-    requires used_value { (used ≡ used_rows l.now) × (length sums.old ≡ hours) × (length late.now ≡ most_rows) }
-    requires marks { Marks refs.now marks.now (length refs.now) }
-    ensures { result ≡ all_fit hours l.now refs.now (marked late.now) }
-{
-    for p in 0..used {
-        if !fits_late(sums, l, marks, late, rows, hours, used, p) {
-            return false;
+    // What came back to row p, which is not CONFIRMED any more, is within the bound.
+    fn fits(self, marks: &RowMarks, p: usize) -> bool
+        requires { p < self.used }
+        ensures { let hours = self.entry.size.hours in
+            let words = self.entry.words.now in
+            result ≡ all_below hours (λ h. fits_in hours words (marked marks.now) p h) }
+    {
+        // No heap in the library: memory for the most hours.
+        let mut buffer = [0u32; MOST_HOURS as usize];
+        let sums = &mut buffer[..self.size.hours];
+        self.sum_back(sums, marks, p);
+        add_hours(sums, self.words, self.size, p, Profile::Displaced);
+        if !self.is_confirmed(p) {
+            return words::all_within(MOST_MEGAWATTS, sums);
         }
+        add_hours(sums, self.words, self.size, p, Profile::Available);
+        self.within_granted(sums, p)
     }
-    true
+
+    fn fits_late(self, moved: &Moved, p: usize) -> bool
+        requires { p < self.used }
+        ensures { let hours = self.entry.size.hours in
+            let words = self.entry.words.now in
+            result ≡ (not (marked moved.now.late p)
+            || all_below hours (λ h. fits_in hours words (marked moved.now.gone) p h)) }
+    {
+        !moved.late.has(p) || self.fits(&moved.gone, p)
+    }
+
+    // All rows of the references are marked; the code reads the marks alone.
+    pub fn all_fit(self, moved: &Moved, refs: &[u32]) -> bool
+        requires { Marks refs.now moved.now.gone (length refs.now) }
+        ensures { result ≡ all_fit self.entry.size.hours self.entry.words.now refs.now (marked moved.now.late) }
+    {
+        (0..self.used).all(|p| self.fits_late(moved, p))
+    }
 }

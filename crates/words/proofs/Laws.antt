@@ -1,19 +1,24 @@
 -- Laws of the definitions of `specs/Lists.antt`.
 use mathlib.Core.Path.{◌≡◌, refl, sym, ap, ◌∙◌, subst}
-use mathlib.Core.Bool.{Bool, true, false, ◌&&◌, cond, and_assoc, and-true}
+use mathlib.Core.Bool.{Bool, true, false, ◌&&◌, not, cond, and_assoc, and-true}
 use mathlib.Core.Logic.{◌⊎◌, ⊎_elim, inl, inr}
 use mathlib.Core.List.{List, [], ◌∷◌, ◌++◌, append_assoc, append-nil}
 use Prim.Native.Nat.{ℕ, zero, suc, ◌+◌, ◌-◌, ◌*◌, ◌≤◌, ◌<◌, zero-le}
 use native.Mathlib.Decide.{dec_lt}
-use native.Mathlib.Nat.{suc-mul, add-suc, add_assoc, add-mul, one-mul, not-suc-le-zero, eq-or-lt_of_le, le_of_suc-le-suc}
+use native.Mathlib.Nat.{suc-mul, add_assoc, not-suc-le-zero, eq-or-lt_of_le, le_of_suc-le-suc}
 use native.Mathlib.Numerals.{add-one}
 use native.Mathlib.Omega.{arith}
-use lib.ListN.{length, get_or, set, take, drop, length-append, length-take, length-drop, length-set, get_or-append, get_or-eq_default, take-append-drop}
-use borrow.Author.Count.{below_none, below_more}
-use lib.Dec.{leb, eqb}
-use borrow.Author.Tests.{leb-true, le-leb, lt-leb, eq-eqb, eqb-true}
+use lib.ListN.{length, get_or, set, replicate, take, drop, length-append, length-take, length-drop, length-set, get_or-append, get_or-eq_default, take-append-drop}
+use lib.Dec.{leb, ltb, eqb}
+use Rattle.std.specs.Option.{unwrap_or}
+use Rattle.std.proofs.Common.{below_none, below_more, Some, None}
+use borrow.Author.Tests.{lt-ltb, le-ltb, leb-true, le-leb, lt-leb, eq-eqb, eqb-true}
 use lib.Seq.{append_snoc, set_split, set_at, drop-cons, get_or_at, get_or-append-add, get_or-take, get_or-drop, ext_get_or, drop-length, length-take-le, drop-drop}
-use Rattle.words.specs.Lists.{part, splice, build, zip2, all_below, first_below, sum_below, noughts, every, covered, equal, roomy, within, zeros, total}
+use Rattle.std.specs.List.{fold, zip, sum, position, position_or_len, copy_within}
+use Rattle.std.proofs.lemmas.List.Sums.{sum_by-cons, prefix_len-le-length}
+use Rattle.std.proofs.lemmas.Slice.Zip.{length-zip}
+use Rattle.std.proofs.lemmas.List.{length-replicate, get_or-replicate, take-append-le, drop-append-le, take_at, drop_at}
+use Rattle.words.specs.Lists.{part, splice, build, zip2, all_below, first_below, sum_below, noughts, every, every_pair, covered, equal, roomy, within, zeros, total, first_short}
 
 which : (a b : ℕ) → Dec (a < b) → (a < b) ⊎ (b ≤ a)
 which a b (yes p) = inl p
@@ -67,12 +72,6 @@ filled_more d f i h =
     ∙ sym (append_snoc (build i f) (f i) (drop (suc i) d))
     ∙ ap (λ (k : ℕ). filled d f k) (sym (add-one i))
 
--- what is not yet passed is as it was
-pub filled_at : (d : List ℕ) (f : ℕ → ℕ) (i : ℕ) → i < length d → get_or (filled d f i) i 0 ≡ get_or d i 0
-filled_at d f i h =
-    ap (λ (r : List ℕ). get_or (build i f ++ r) i 0) (drop-cons d i 0 h)
-    ∙ get_or_at (build i f) (get_or d i 0) (drop (suc i) d) 0 i (build_length i f)
-
 pub filled_all : (d : List ℕ) (f : ℕ → ℕ) (i : ℕ) → length d ≤ i → i ≤ length d → filled d f i ≡ build (length d) f
 filled_all d f i h h' =
     let e : i ≡ length d = omega arith in
@@ -96,9 +95,6 @@ filling_turn {d₀} {f} {end} {d} {i} h lt v e =
       long = length-set d i v ∙ h.long;
       is = ap (λ (x : ℕ). set d i x) e ∙ ap (λ (l : List ℕ). set l i (f i)) h.is ∙ filled_more d₀ f i (omega (arith, h.ended));
     }
-
-pub filling_kept : {d₀ : List ℕ} {f : ℕ → ℕ} {end : ℕ} {d : List ℕ} {i : ℕ} → Filling d₀ f end d i → i < end → get_or d i 0 ≡ get_or d₀ i 0
-filling_kept {d₀} {f} {end} {d} {i} h lt = ap (λ (l : List ℕ). get_or l i 0) h.is ∙ filled_at d₀ f i (omega (arith, h.ended))
 
 pub filling_done : {d₀ : List ℕ} {f : ℕ → ℕ} {end : ℕ} {d : List ℕ} {i : ℕ} → Filling d₀ f end d i → end ≤ i → d ≡ build (length d₀) f
 filling_done {d₀} {f} {end} {d} {i} h past = h.is ∙ filled_all d₀ f i (omega (arith, h.ended)) (omega (arith, h.ended, h.below))
@@ -214,6 +210,27 @@ every_at p a e i h = all_at (λ k. p (get_or a k 0)) (length a) i (sym (every_be
 pub every_all : (p : ℕ → Bool) (a : List ℕ) → ((i : ℕ) → i < length a → p (get_or a i 0) ≡ true) → every p a ≡ true
 every_all p a h = every_below p a ∙ all_below_lem (λ k. p (get_or a k 0)) (length a) h
 
+-- a test of every word, gathered from the first on; the same of the pairs of two lists
+pub fold_every : (p : ℕ → Bool) (a : List ℕ) → fold (λ ok x. ok && p x) true a ≡ every p a
+unfolding every
+fold_every p a = go true a
+  where
+    go : (ok : Bool) (xs : List ℕ) → fold (λ r x. r && p x) ok xs ≡ (ok && every p xs)
+    go ok [] = sym (and-true ok)
+    go ok (x ∷ xs) = go (ok && p x) xs ∙ and_assoc ok (p x) (every p xs)
+
+pub fold_pairs : (p : ℕ → ℕ → Bool) (a b : List ℕ) → length b ≡ length a → fold (λ ok q. ok && p q.0 q.1) true (zip a b) ≡ every_pair p a b
+unfolding all_below
+fold_pairs p a b n = go true a b n
+  where
+    go : (ok : Bool) (xs ys : List ℕ) → length ys ≡ length xs → fold (λ r q. r && p q.0 q.1) ok (zip xs ys) ≡ (ok && every_pair p xs ys)
+    go ok [] ys n = sym (and-true ok)
+    go ok (x ∷ xs) [] n = absurd (omega arith)
+    go ok (x ∷ xs) (y ∷ ys) n =
+        go (ok && p x y) xs ys (omega arith)
+        ∙ and_assoc ok (p x y) (every_pair p xs ys)
+        ∙ ap (λ (b : Bool). ok && b) (sym (below_first (length xs) (λ k. p (get_or (x ∷ xs) k 0) (get_or (y ∷ ys) k 0))))
+
 pub within_at : (bound : ℕ) (a : List ℕ) → within bound a ≡ true → (i : ℕ) → i < length a → get_or a i 0 ≤ bound
 unfolding within
 within_at bound a e i h = leb-true _ _ (every_at (λ x. leb x bound) a e i h)
@@ -229,41 +246,6 @@ zeros_at a e i h = eqb-true _ _ (every_at (λ x. eqb x 0) a e i h)
 pub zeros_all : (a : List ℕ) → ((i : ℕ) → i < length a → get_or a i 0 ≡ 0) → zeros a ≡ true
 unfolding zeros
 zeros_all a h = every_all (λ x. eqb x 0) a (λ i lt. eq-eqb (get_or a i 0) 0 (h i lt))
-
--- ---- first_below: what a search that goes up has shown
-pub first_found : (n : ℕ) (p : ℕ → Bool) (r : ℕ) → r < n → ((k : ℕ) → k < r → p k ≡ false) → p r ≡ true → first_below n p ≡ r
-unfolding first_below
-first_found zero p r h none e = absurd (not-suc-le-zero h)
-first_found (suc n) p zero h none e = ap (λ (b : Bool). cond b zero (suc (first_below n (λ k. p (suc k))))) e
-first_found (suc n) p (suc r) h none e =
-    ap (λ (b : Bool). cond b zero (suc (first_below n (λ k. p (suc k))))) (none 0 (omega arith))
-    ∙ ap suc (first_found n (λ k. p (suc k)) r (omega arith) (λ k lt. none (suc k) (omega arith)) e)
-
-pub first_none : (n : ℕ) (p : ℕ → Bool) → ((k : ℕ) → k < n → p k ≡ false) → first_below n p ≡ n
-unfolding first_below
-first_none zero p none = refl
-first_none (suc n) p none =
-    ap (λ (b : Bool). cond b zero (suc (first_below n (λ k. p (suc k))))) (none 0 (omega arith))
-    ∙ ap suc (first_none n (λ k. p (suc k)) (λ k lt. none (suc k) (omega arith)))
-
--- the invariant of a search that has not found p so far; its start, a turn, its two ends
-pub record Searching (n : ℕ) (p : ℕ → Bool) (i : ℕ) : Type 0 where
-  pub below : i ≤ n
-  pub none : (k : ℕ) → k < i → p k ≡ false
-
-pub searching_start : (n : ℕ) (p : ℕ → Bool) → Searching n p 0
-searching_start n p = record { below = zero-le; none = below_none (λ k. p k ≡ false) }
-
-pub searching_turn : {n : ℕ} {p : ℕ → Bool} {i : ℕ} → Searching n p i → i < n → p i ≡ false → Searching n p (i + 1)
-searching_turn {n} {p} {i} h lt e = record { below = omega arith; none = below_more (λ k. p k ≡ false) i h.none e }
-
-pub searching_found : {n : ℕ} {p : ℕ → Bool} {i : ℕ} → Searching n p i → i < n → p i ≡ true → i ≡ first_below n p
-searching_found {n} {p} {i} h lt e = sym (first_found n p i lt h.none e)
-
-pub searching_done : {n : ℕ} {p : ℕ → Bool} {i : ℕ} → Searching n p i → n ≤ i → i ≡ first_below n p
-searching_done {n} {p} {i} h past =
-    let e : i ≡ n = omega (arith, h.below) in
-    e ∙ sym (first_none n p (subst (λ (m : ℕ). (k : ℕ) → k < m → p k ≡ false) e h.none))
 
 -- ---- sum_below
 pub sum_none : (f : ℕ → ℕ) → sum_below 0 f ≡ 0
@@ -291,28 +273,6 @@ pub sum_add : (n : ℕ) (f g : ℕ → ℕ) → sum_below n (λ k. f k + g k) �
 unfolding sum_below
 sum_add zero f g = refl
 sum_add (suc n) f g = omega (arith, sum_add n f g)
-
--- the invariant of a loop that adds up f, each at most b; its start, a turn, its end
-pub record Summing (n b : ℕ) (f : ℕ → ℕ) (end s i : ℕ) : Type 0 where
-  pub ended : end ≡ n
-  pub below : i ≤ end
-  pub is : s ≡ sum_below i f
-  pub most : s ≤ i * b
-
-pub summing_start : (n b : ℕ) (f : ℕ → ℕ) → Summing n b f n 0 0
-summing_start n b f = record { ended = refl; below = zero-le; is = sym (sum_none f); most = zero-le }
-
-pub summing_turn : {n b : ℕ} {f : ℕ → ℕ} {end s i : ℕ} → Summing n b f end s i → i < end → f i ≤ b → Summing n b f end (s + f i) (i + 1)
-summing_turn {n} {b} {f} {end} {s} {i} h lt m =
-    record {
-      ended = h.ended;
-      below = omega arith;
-      is = ap (λ (x : ℕ). x + f i) h.is ∙ sym (sum_more f i);
-      most = omega (arith, h.most, add-mul i 1 b, one-mul b);
-    }
-
-pub summing_done : {n b : ℕ} {f : ℕ → ℕ} {end s i : ℕ} → Summing n b f end s i → end ≤ i → s ≡ sum_below n f
-summing_done {n} {b} {f} {end} {s} {i} h past = let e : i ≡ n = omega (arith, h.below, h.ended) in h.is ∙ ap (λ (k : ℕ). sum_below k f) e
 
 -- ---- part and splice
 
@@ -401,57 +361,12 @@ module _ (l : List ℕ) (a : ℕ) (v : List ℕ) (fits : a + length v ≤ length
       ext_get_or 0 (drop b (splice l a v)) (drop b l) (simp length-drop (ap (λ (k : ℕ). k - b) splice_length))
       (λ i lt. get_or-drop b (splice l a v) i 0 ∙ splice_after (b + i) (omega arith) ∙ sym (get_or-drop b l i 0))
 
--- ---- a loop that stores f i at a + i
 splice_form : (l : List ℕ) (a : ℕ) (v : List ℕ) (n : ℕ) → length v ≡ n → splice l a v ≡ (take a l ++ v) ++ drop (a + n) l
 unfolding splice
 splice_form l a v n e =
     ap (λ (m : ℕ). take a l ++ (v ++ drop m (drop a l))) e
     ∙ ap (λ (r : List ℕ). take a l ++ (v ++ r)) (drop-drop n a l)
     ∙ sym (append_assoc (take a l) v (drop (a + n) l))
-
-pub splice_none : (l : List ℕ) (a : ℕ) (f : ℕ → ℕ) → l ≡ splice l a (build 0 f)
-unfolding splice build
-splice_none l a f = sym (take-append-drop a l)
-
-pub splice_more : (l : List ℕ) (a : ℕ) (f : ℕ → ℕ) (i : ℕ) → a + i < length l → set (splice l a (build i f)) (a + i) (f i) ≡ splice l a (build (i + 1) f)
-unfolding build
-splice_more l a f i h =
-    let p : List ℕ = take a l ++ build i f in
-    ap (λ (s : List ℕ). set s (a + i) (f i)) (splice_form l a (build i f) i (build_length i f) ∙ ap (λ (r : List ℕ). p ++ r) (drop-cons l (a + i) 0 h))
-    ∙ set_at p (get_or l (a + i) 0) (drop (suc (a + i)) l) (f i) (a + i) (simp (length-append, length-take, build_length) (omega arith))
-    ∙ sym (append_snoc p (f i) (drop (suc (a + i)) l))
-    ∙ ap (λ (r : List ℕ). r ++ drop (suc (a + i)) l) (append_assoc (take a l) (build i f) (f i ∷ []))
-    ∙ ap (λ (k : ℕ). (take a l ++ build (suc i) f) ++ drop k l) (sym (add-suc a i))
-    ∙ sym (splice_form l a (build (suc i) f) (suc i) (build_length (suc i) f))
-    ∙ ap (λ (k : ℕ). splice l a (build k f)) (sym (add-one i))
-
--- its invariant, for i below n; its start, a turn, what is not passed, its end
-pub record Splicing (l₀ : List ℕ) (a n : ℕ) (f : ℕ → ℕ) (l : List ℕ) (i : ℕ) : Type 0 where
-  pub fits : a + n ≤ length l₀
-  pub below : i ≤ n
-  pub long : length l ≡ length l₀
-  pub is : l ≡ splice l₀ a (build i f)
-
-pub splicing_start : (l : List ℕ) (a n : ℕ) (f : ℕ → ℕ) → a + n ≤ length l → Splicing l a n f l 0
-splicing_start l a n f h = record { fits = h; below = zero-le; long = refl; is = splice_none l a f }
-
-pub splicing_turn : {l₀ : List ℕ} {a n : ℕ} {f : ℕ → ℕ} {l : List ℕ} {i : ℕ} → Splicing l₀ a n f l i → i < n → (v : ℕ) → v ≡ f i → Splicing l₀ a n f (set l (a + i) v) (i + 1)
-splicing_turn {l₀} {a} {n} {f} {l} {i} h lt v e =
-    record {
-      fits = h.fits;
-      below = omega arith;
-      long = length-set l (a + i) v ∙ h.long;
-      is = ap (λ (x : ℕ). set l (a + i) x) e ∙ ap (λ (s : List ℕ). set s (a + i) (f i)) h.is ∙ splice_more l₀ a f i (omega (arith, h.fits));
-    }
-
-pub splicing_kept : {l₀ : List ℕ} {a n : ℕ} {f : ℕ → ℕ} {l : List ℕ} {i : ℕ} → Splicing l₀ a n f l i → (j : ℕ) → (j < a) ⊎ (a + i ≤ j) → get_or l j 0 ≡ get_or l₀ j 0
-splicing_kept {l₀} {a} {n} {f} {l} {i} h j w =
-    let fit : a + length (build i f) ≤ length l₀ = simp build_length (omega (arith, h.fits, h.below)) in
-    ap (λ (s : List ℕ). get_or s j 0) h.is
-    ∙ ⊎_elim (λ x. splice_before l₀ a (build i f) fit j x) (λ x. splice_after l₀ a (build i f) fit j (simp build_length x)) w
-
-pub splicing_done : {l₀ : List ℕ} {a n : ℕ} {f : ℕ → ℕ} {l : List ℕ} {i : ℕ} → Splicing l₀ a n f l i → n ≤ i → l ≡ splice l₀ a (build n f)
-splicing_done {l₀} {a} {n} {f} {l} {i} h past = let e : i ≡ n = omega (arith, h.below) in h.is ∙ ap (λ (k : ℕ). splice l₀ a (build k f)) e
 
 -- ---- a splice at each index, by cases; two splices that do not meet
 module _ (l : List ℕ) (a : ℕ) (v : List ℕ) (fits : a + length v ≤ length l) (l' : List ℕ) where
@@ -471,34 +386,6 @@ module _ (l : List ℕ) (a : ℕ) (v : List ℕ) (fits : a + length v ≤ length
       (λ y. r i y (omega arith) ∙ sym (splice_after l a v fits i y))
       (lt_or_le i (a + length v)))
       (lt_or_le i a))
-
--- ---- the elements of two parts of one list, by the list's own indices
-pub build_part : (l : List ℕ) (b n : ℕ) → b + n ≤ length l → build n (λ k. get_or l (b + k) 0) ≡ part l b n
-build_part l b n h =
-    build_cong n _ _ (λ k lt. sym (part_at l b n h k lt)) ∙ build_list (part l b n) n (part_length l b n h)
-
-pub build_zip : (g : ℕ → ℕ → ℕ) (l : List ℕ) (a b n : ℕ) → a + n ≤ length l → b + n ≤ length l → build n (λ k. g (get_or l (a + k) 0) (get_or l (b + k) 0)) ≡ zip2 g (part l a n) (part l b n)
-unfolding zip2
-build_zip g l a b n ha hb =
-    build_cong n _ _ (λ k lt. cc (part_at l a n ha k lt, part_at l b n hb k lt))
-    ∙ ap (λ (m : ℕ). build m (λ k. g (get_or (part l a n) k 0) (get_or (part l b n) k 0))) (sym (part_length l a n ha))
-
-pub covered_parts : (l : List ℕ) (a b n : ℕ) → a + n ≤ length l → b + n ≤ length l → covered (part l b n) (part l a n) ≡ true → (k : ℕ) → k < n → get_or l (b + k) 0 ≤ get_or l (a + k) 0
-covered_parts l a b n ha hb e k lt =
-    let h : k < length (part l b n) = omega (arith, part_length l b n hb) in
-    omega (arith, covered_at (part l b n) (part l a n) e k h, part_at l b n hb k lt, part_at l a n ha k lt)
-
-pub roomy_parts : (bound : ℕ) (l : List ℕ) (a b n : ℕ) → a + n ≤ length l → b + n ≤ length l → roomy bound (part l b n) (part l a n) ≡ true → (k : ℕ) → k < n → get_or l (b + k) 0 + get_or l (a + k) 0 ≤ bound
-roomy_parts bound l a b n ha hb e k lt =
-    let h : k < length (part l b n) = omega (arith, part_length l b n hb) in
-    omega (arith, roomy_at bound (part l b n) (part l a n) e k h, part_at l b n hb k lt, part_at l a n ha k lt)
-
-module _ {l₀ : List ℕ} {a n : ℕ} {f : ℕ → ℕ} {l : List ℕ} {i : ℕ} (h : Splicing l₀ a n f l i) (lt : i < n) where
-  pub splicing_here : get_or l (a + i) 0 ≡ get_or l₀ (a + i) 0
-  splicing_here = splicing_kept h (a + i) (inr (omega arith))
-
-  pub splicing_there : (b : ℕ) → (a + n ≤ b) ⊎ (b + n ≤ a) → get_or l (b + i) 0 ≡ get_or l₀ (b + i) 0
-  splicing_there b w = splicing_kept h (b + i) (⊎_elim (λ x. inr (omega arith)) (λ x. inl (omega arith)) w)
 
 -- ---- a part of a part, a splice in a part, and a store as a splice
 pub part_part : (l : List ℕ) (a n b m : ℕ) → a + n ≤ length l → b + m ≤ n → part (part l a n) b m ≡ part l (a + b) m
@@ -567,10 +454,6 @@ unfolding all_below
 gathering_turn {n} {p} {end} {b} {i} h lt =
     record { ended = h.ended; below = omega arith; is = ap (λ (x : Bool). x && p i) h.is ∙ ap (λ (k : ℕ). all_below k p) (sym (add-one i)) }
 
--- by a test that is worked out otherwise
-pub gathering_turn_by : {n : ℕ} {p : ℕ → Bool} {end : ℕ} {b q : Bool} {i : ℕ} → Gathering n p end b i → i < end → q ≡ p i → Gathering n p end (b && q) (i + 1)
-gathering_turn_by {n} {p} {end} {b} {q} {i} h lt e = subst (λ (t : Bool). Gathering n p end (b && t) (i + 1)) (sym e) (gathering_turn h lt)
-
 pub gathering_done : {n : ℕ} {p : ℕ → Bool} {end : ℕ} {b : Bool} {i : ℕ} → Gathering n p end b i → end ≤ i → b ≡ all_below n p
 gathering_done {n} {p} {end} {b} {i} h past = let e : i ≡ n = omega (arith, h.below, h.ended) in h.is ∙ ap (λ (k : ℕ). all_below k p) e
 
@@ -600,3 +483,113 @@ pub noughts_at : (n i : ℕ) → get_or (noughts n) i 0 ≡ 0
 unfolding noughts
 noughts_at n i =
     ⊎_elim (λ h. build_at n (λ _. 0) i h) (λ h. get_or-eq_default (build n (λ _. 0)) 0 (simp build_length h)) (lt_or_le i n)
+
+-- ---- the library's words for a sum, for zeros, for the first pair of two lists that passes
+sum_first : (n : ℕ) (f : ℕ → ℕ) → sum_below (suc n) f ≡ f 0 + sum_below n (λ k. f (suc k))
+unfolding sum_below
+sum_first zero f = omega arith
+sum_first (suc n) f = omega (arith, sum_first n f)
+
+total_sum : (a : List ℕ) → sum a ≡ total a
+unfolding total sum_below
+total_sum [] = refl
+total_sum (x ∷ xs) =
+    sum_by-cons (λ y. y) x xs
+    ∙ ap (λ (m : ℕ). x + m) (total_sum xs)
+    ∙ sym (sum_first (length xs) (λ k. get_or (x ∷ xs) k 0))
+
+pub total_is : (a : List ℕ) (s : ℕ) → s ≡ sum a → s ≡ total a
+total_is a s e = e ∙ total_sum a
+
+pub noughts_replicate : (n : ℕ) → replicate n 0 ≡ noughts n
+unfolding noughts
+noughts_replicate n =
+    sym (build_list (replicate n 0) n (length-replicate n 0)) ∙ build_cong n _ _ (λ k lt. get_or-replicate n k 0 0 lt)
+
+either_first : (b : Bool) (m n : ℕ) → m ≡ n → cond (not b) (1 + m) 0 ≡ cond b 0 (suc n)
+either_first true m n e = refl
+either_first false m n e = omega arith
+
+-- ---- first_below: what a search that goes up has shown
+pub first_found : (n : ℕ) (p : ℕ → Bool) (r : ℕ) → r < n → ((k : ℕ) → k < r → p k ≡ false) → p r ≡ true → first_below n p ≡ r
+unfolding first_below
+first_found zero p r h none e = absurd (not-suc-le-zero h)
+first_found (suc n) p zero h none e = ap (λ (b : Bool). cond b zero (suc (first_below n (λ k. p (suc k))))) e
+first_found (suc n) p (suc r) h none e =
+    ap (λ (b : Bool). cond b zero (suc (first_below n (λ k. p (suc k))))) (none 0 (omega arith))
+    ∙ ap suc (first_found n (λ k. p (suc k)) r (omega arith) (λ k lt. none (suc k) (omega arith)) e)
+
+pub first_none : (n : ℕ) (p : ℕ → Bool) → ((k : ℕ) → k < n → p k ≡ false) → first_below n p ≡ n
+unfolding first_below
+first_none zero p none = refl
+first_none (suc n) p none =
+    ap (λ (b : Bool). cond b zero (suc (first_below n (λ k. p (suc k))))) (none 0 (omega arith))
+    ∙ ap suc (first_none n (λ k. p (suc k)) (λ k lt. none (suc k) (omega arith)))
+
+-- the invariant of a search that has not found p so far; its start, a turn, its two ends
+pub record Searching (n : ℕ) (p : ℕ → Bool) (i : ℕ) : Type 0 where
+  pub below : i ≤ n
+  pub none : (k : ℕ) → k < i → p k ≡ false
+
+pub searching_start : (n : ℕ) (p : ℕ → Bool) → Searching n p 0
+searching_start n p = record { below = zero-le; none = below_none (λ k. p k ≡ false) }
+
+pub searching_turn : {n : ℕ} {p : ℕ → Bool} {i : ℕ} → Searching n p i → i < n → p i ≡ false → Searching n p (i + 1)
+searching_turn {n} {p} {i} h lt e = record { below = omega arith; none = below_more (λ k. p k ≡ false) i h.none e }
+
+pub searching_found : {n : ℕ} {p : ℕ → Bool} {i : ℕ} → Searching n p i → i < n → p i ≡ true → i ≡ first_below n p
+searching_found {n} {p} {i} h lt e = sym (first_found n p i lt h.none e)
+
+pub searching_done : {n : ℕ} {p : ℕ → Bool} {i : ℕ} → Searching n p i → n ≤ i → i ≡ first_below n p
+searching_done {n} {p} {i} h past =
+    let e : i ≡ n = omega (arith, h.below) in
+    e ∙ sym (first_none n p (subst (λ (m : ℕ). (k : ℕ) → k < m → p k ≡ false) e h.none))
+
+-- a list is f of the words of two, by its words
+pub zip_is : (f : ℕ → ℕ → ℕ) (a b c : List ℕ) → length c ≡ length a → ((i : ℕ) → i < length a → get_or c i 0 ≡ f (get_or a i 0) (get_or b i 0)) → c ≡ zip2 f a b
+unfolding zip2
+zip_is f a b c n h = sym (build_list c (length a) n) ∙ build_cong (length a) _ _ h
+
+-- ---- a part copied within a list; a part written while its list is lent as two
+pub splice_copy : (l : List ℕ) (a b n : ℕ) → b + n ≤ length l → copy_within l b (b + n) a ≡ splice l a (part l b n)
+splice_copy l a b n h =
+    let e : b + n - b ≡ n = omega arith in
+    ap (λ (k : ℕ). take a l ++ take k (drop b l) ++ drop (a + k) l) e ∙ sym (splice_form l a (part l b n) n (part_length l b n h))
+
+front_part : (front back : List ℕ) (a n : ℕ) → a + n ≤ length front → part (front ++ back) a n ≡ part front a n
+front_part front back a n h =
+    ap (λ (x : List ℕ). take n x) (drop-append-le a front back (omega arith))
+    ∙ take-append-le n (drop a front) back (simp length-drop (omega arith))
+
+back_part : (front back : List ℕ) (a n : ℕ) → length front ≡ a → part (front ++ back) a n ≡ take n back
+back_part front back a n h = ap (λ (x : List ℕ). take n x) (drop_at front back a h)
+
+module _ (g : ℕ → ℕ → ℕ) (l front back d : List ℕ) (a b n : ℕ) (is : l ≡ front ++ back) (long : b + n ≤ length l) where
+  pub zip_front : length front ≡ b → a + n ≤ b → d ≡ zip2 g (take (a + n - a) (drop a front)) (take n back) → take a front ++ (d ++ drop (a + n - a) (drop a front)) ++ back ≡ splice l a (zip2 g (part l a n) (part l b n))
+  unfolding splice
+  zip_front f h e =
+      let k : a + n - a ≡ n = omega arith in
+      let rest : n ≤ length (drop a front) = simp length-drop (omega arith) in
+      let first : length (take (a + n - a) (drop a front)) ≡ n = simp (length-take, length-drop) (omega arith) in
+      let d-long : length d ≡ n = ap length e ∙ zip_length g (take (a + n - a) (drop a front)) (take n back) ∙ first in
+      let same : d ≡ zip2 g (part l a n) (part l b n) = cc (front_part front back a n (omega arith), back_part front back b n f) in
+      let x : List ℕ = drop n (drop a front) in
+      cc (
+        take-append-le a front back (omega arith),
+        drop-append-le a front back (omega arith),
+        drop-append-le n (drop a front) back rest,
+        append_assoc d x back,
+        append_assoc (take a front) (d ++ x) back,
+      )
+
+module _ (g : ℕ → ℕ → ℕ) (l front back d : List ℕ) (a b n : ℕ) (is : l ≡ front ++ back) (long : a + n ≤ length l) where
+  pub zip_back : length front ≡ a → b + n ≤ a → d ≡ zip2 g (take n back) (take (b + n - b) (drop b front)) → front ++ (d ++ drop n back) ≡ splice l a (zip2 g (part l a n) (part l b n))
+  unfolding splice
+  zip_back f h e =
+      let k : b + n - b ≡ n = omega arith in
+      let both : length l ≡ length front + length back = ap length is ∙ length-append front back in
+      let first : length (take n back) ≡ n = simp length-take (omega arith) in
+      let d-long : length d ≡ n = ap length e ∙ zip_length g (take n back) (take (b + n - b) (drop b front)) ∙ first in
+      let same : d ≡ zip2 g (part l a n) (part l b n) = cc (front_part front back b n (omega arith), back_part front back a n f) in
+      let t : take a (front ++ back) ≡ front = take_at front back a f in
+      cc (drop_at front back a f)

@@ -46,6 +46,10 @@ unfoldable pub every : (ℕ → Bool) → List ℕ → Bool
 every p [] = true
 every p (x ∷ xs) = p x && every p xs
 
+-- every pair of words at one place of a and b passes, as many as a has
+abbrev pub every_pair : (ℕ → ℕ → Bool) → List ℕ → List ℕ → Bool
+every_pair p a b = all_below (length a) (λ k. p (word_at a k) (word_at b k))
+
 -- every word is at most the bound; every word is 0
 unfoldable pub within : ℕ → List ℕ → Bool
 within bound a = every (λ x. leb x bound) a

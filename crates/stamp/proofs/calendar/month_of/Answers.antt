@@ -1,21 +1,14 @@
--- `stamp::calendar::month_of` meets its contract. Assumes nothing.
-use Rattle.std.proofs.Common.{refl, arith}
-use Rattle.stamp.proofs.Halving.{halving_start, halving_up, halving_down, halving_done}
+use Rattle.std.proofs.Common.{rules, leb}
+use Rattle.std.proofs.lemmas.List.Sorted.{IsPartitionPoint-from_clause}
+use Rattle.stamp.proofs.Begun.{parted, one_begun, last_begun}
 use Rattle.stamp.proofs.calendar.month_of.Goals as goal
-use Rattle.stamp.proofs.calendar.month_of.Goals.{then-days_before-day, else-days_before-day}
 
-pub loop-init : goal.loop-init
-loop-init c = halving_start _ c.requires.day_lt_all_days
-
-pub loop-preserved : goal.loop-preserved
-loop-preserved c =
-    let e = c.days_before.ensures in
-    let inv = c.loop.invariant in
-    elim c.if-days_before-day.branch [
-      | then-days_before-day w ↦ rw (w.low-is, w.high-is) (halving_up inv _ refl c.loop-test.true (omega arith))
-      | else-days_before-day w ↦ rw (w.low-is, w.high-is) (halving_down inv _ refl c.loop-test.true (omega arith))
-    ]
+pub overflow_sub-result : goal.overflow_sub-result
+overflow_sub-result c =
+    let point = IsPartitionPoint-from_clause (λ before. leb before c.args.day) _ _ c.partition_point-begun.ensures.partitioned (parted c.month_table.ensures _) (λ a r q k. search rules) in
+    one_begun c.month_table.ensures _ c.requires _ c.partition_point-begun.ensures.bound point
 
 pub returns : goal.returns
 returns c =
-    record { is = halving_done c.requires.day_lt_all_days c.loop.invariant (omega arith); begins = c.loop.invariant.begins; small = omega arith }
+    let point = IsPartitionPoint-from_clause (λ before. leb before c.args.day) _ _ c.partition_point-begun.ensures.partitioned (parted c.month_table.ensures _) (λ a r q k. search rules) in
+    last_begun c.month_table.ensures _ c.requires _ c.partition_point-begun.ensures.bound point

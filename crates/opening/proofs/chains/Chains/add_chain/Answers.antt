@@ -1,0 +1,20 @@
+use Prim.Native.Nat.{◌-◌}
+use native.Mathlib.Omega.{arith}
+use Rattle.opening.proofs.Chained.{chained_falls}
+use Rattle.opening.proofs.Added.{walking_turn, walking_room, walking_done}
+use Rattle.opening.proofs.chains.Chains.add_chain.Goals as goal
+
+pub add_share-requires-clause-sums : goal.add_share-requires-clause-sums
+add_share-requires-clause-sums g c =
+    walking_room c.loop-m.invariant c.args.self.now.sound_at (chained_falls c.args.self.now.chained) c.requires.last_bound c.requires.sums
+
+pub loop-m-smaller : goal.loop-m-smaller
+loop-m-smaller g c =
+    let low = (chained_falls c.args.self.now.chained).falls (c.loop-m.m - 1) (omega (arith, c.loop-m-test.true, c.loop-m.invariant.below)) in
+    omega (arith, low, c.loop-m-test.true)
+
+pub loop-m-preserved : goal.loop-m-preserved
+loop-m-preserved g c = walking_turn c.loop-m.invariant (chained_falls c.args.self.now.chained) c.loop-m-test.true c.add_share.ensures
+
+pub returns : goal.returns
+returns g c = walking_done c.loop-m.invariant c.loop-m-test.false c.requires.sums.long

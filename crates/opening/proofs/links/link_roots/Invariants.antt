@@ -1,0 +1,6 @@
+use Rattle.words.proofs.Laws.{Filling}
+use Rattle.opening.specs.Chains.{root_link}
+use Rattle.opening.proofs.links.link_roots.Given as goal
+
+abbrev pub invariant-loop-n : goal.invariant-loop-n
+invariant-loop-n l = Filling l.fn.links (λ k. root_link l.size.hours l.l k) l.n-end l.links l.n
