@@ -1,6 +1,7 @@
-// The lines that are actions. The fields that a kind does not read are wild numbers.
+// The lines that are actions: each verb names its numbers, in their order, as fields of the action. The fields that a
+// kind does not read are wild numbers.
 use crate::report::Unfit;
-use crate::text::Line;
+use crate::text::{Line, exactly};
 use rules::{Action, Kind};
 
 const WILD: u32 = u32::MAX;
@@ -102,7 +103,7 @@ fn submit(fields: &[u32]) -> Result<Action, Unfit> {
         return Err(Unfit::Unreadable);
     };
     Ok(Action {
-        kind: Kind::Submit.code(),
+        kind: u32::from(Kind::Submit),
         actor,
         reqtype,
         seller,
@@ -117,11 +118,9 @@ fn submit(fields: &[u32]) -> Result<Action, Unfit> {
 }
 
 fn status(kind: Kind, fields: &[u32]) -> Result<Action, Unfit> {
-    let &[actor, reference, status, price] = fields else {
-        return Err(Unfit::Unreadable);
-    };
+    let [actor, reference, status, price] = exactly::<4>(fields)?;
     Ok(Action {
-        kind: kind.code(),
+        kind: u32::from(kind),
         actor,
         reference,
         status,
@@ -131,11 +130,9 @@ fn status(kind: Kind, fields: &[u32]) -> Result<Action, Unfit> {
 }
 
 fn named(kind: Kind, fields: &[u32]) -> Result<Action, Unfit> {
-    let &[actor, reference] = fields else {
-        return Err(Unfit::Unreadable);
-    };
+    let [actor, reference] = exactly::<2>(fields)?;
     Ok(Action {
-        kind: kind.code(),
+        kind: u32::from(kind),
         actor,
         reference,
         ..WILD_ACTION
@@ -143,11 +140,9 @@ fn named(kind: Kind, fields: &[u32]) -> Result<Action, Unfit> {
 }
 
 fn clock(fields: &[u32]) -> Result<Action, Unfit> {
-    let &[actor, time] = fields else {
-        return Err(Unfit::Unreadable);
-    };
+    let [actor, time] = exactly::<2>(fields)?;
     Ok(Action {
-        kind: Kind::Clock.code(),
+        kind: u32::from(Kind::Clock),
         actor,
         time,
         ..WILD_ACTION
@@ -155,11 +150,9 @@ fn clock(fields: &[u32]) -> Result<Action, Unfit> {
 }
 
 fn post(fields: &[u32]) -> Result<Action, Unfit> {
-    let &[actor, path, start, stop] = fields else {
-        return Err(Unfit::Unreadable);
-    };
+    let [actor, path, start, stop] = exactly::<4>(fields)?;
     Ok(Action {
-        kind: Kind::Post.code(),
+        kind: u32::from(Kind::Post),
         actor,
         start,
         stop,
@@ -183,6 +176,5 @@ pub fn action_asked(line: &Line) -> Result<Option<Action>, Unfit> {
         "action" => return Ok(Some(whole_action(fields)?)),
         _ => return Ok(None),
     };
-    let length = u32::try_from(line.profile.len()).map_err(|_| Unfit::Unreadable)?;
-    Ok(Some(with_profile(action, length)))
+    Ok(Some(with_profile(action, u32::try_from(line.profile.len())?)))
 }

@@ -7,31 +7,28 @@ use std::ops::Range;
 
 // Where the rows of a ledger and the postings of its paths lie, by the hours that its head names.
 #[derive(Clone, Copy)]
-pub struct Layout {
+struct Layout {
     size: Size,
 }
 
 impl Layout {
-    // With no hours where the words are too few, or the hours too many.
-    pub fn of(ledger: &[u32]) -> Layout {
-        let hours = match ledger.get(HOURS) {
-            Some(hours) if HEAD_WORDS <= ledger.len() && *hours <= MOST_HOURS => *hours as usize,
-            _ => 0,
-        };
-        Layout {
+    // None where the words are too few for a head, or the hours too many. A line may name any row that some ledger has.
+    fn of(ledger: &[u32]) -> Option<Layout> {
+        let hours = *ledger.get(..HEAD_WORDS)?.get(HOURS)?;
+        if MOST_HOURS < hours {
+            return None;
+        }
+        Some(Layout {
             size: Size {
                 rows: MOST_ROWS as usize,
-                hours,
+                hours: hours as usize,
             },
-        }
+        })
     }
 
     // Where the row of a reference starts.
     fn row_start(self, reference: u32) -> Option<usize> {
-        if reference == 0 || MOST_ROWS < reference {
-            return None;
-        }
-        let row = rules::row_of(Reference(reference));
+        let row = Reference(reference).row(self.size.rows)?;
         Some(self.size.end_at(row.0))
     }
 
@@ -44,20 +41,16 @@ impl Layout {
 
     // The part of a row that a verb names: what stands before its path, a part of that, the path, or a profile.
     fn part_of_row(self, verb: &str) -> Option<Range<usize>> {
-        match verb {
-            "row" => Some(REQTYPE..PATH),
-            "status" => Some(STATUS..STATUS + 1),
-            "flags" => Some(FLAGS..FLAGS + 1),
-            "prices" => Some(BID..OFFER + 1),
-            "limit" => Some(LIMIT..LIMIT + 1),
-            "path" => Some(PATH..PATH + 1),
-            "requested" => Some(self.profile(Profile::Requested)),
-            "granted" => Some(self.profile(Profile::Granted)),
-            "available" => Some(self.profile(Profile::Available)),
-            "displaced" => Some(self.profile(Profile::Displaced)),
-            "reduced" => Some(self.profile(Profile::Reduced)),
-            _ => None,
-        }
+        let part = match verb {
+            "row" => REQTYPE..PATH,
+            "status" => STATUS..STATUS + 1,
+            "flags" => FLAGS..FLAGS + 1,
+            "prices" => BID..OFFER + 1,
+            "limit" => LIMIT..LIMIT + 1,
+            "path" => PATH..PATH + 1,
+            _ => self.profile(profile_named(verb)?),
+        };
+        Some(part)
     }
 
     // Where the postings of a path start.
@@ -67,22 +60,16 @@ impl Layout {
         }
         Some((path as usize - 1) * self.size.hours)
     }
+}
 
-    // The postings of a path.
-    pub fn postings_of(self, postings: &[u32], path: u32) -> Option<&[u32]> {
-        postings
-            .get(self.postings_start(path)?..)?
-            .get(..self.size.hours)
-    }
-
-    // The posting of an hour of a path.
-    pub fn posting_mut(self, postings: &mut [u32], path: u32, hour: u32) -> Option<&mut u32> {
-        let hour = hour as usize;
-        if self.size.hours <= hour {
-            return None;
-        }
-        let start = self.postings_start(path)?;
-        postings.get_mut(start..)?.get_mut(hour)
+fn profile_named(verb: &str) -> Option<Profile> {
+    match verb {
+        "requested" => Some(Profile::Requested),
+        "granted" => Some(Profile::Granted),
+        "available" => Some(Profile::Available),
+        "displaced" => Some(Profile::Displaced),
+        "reduced" => Some(Profile::Reduced),
+        _ => None,
     }
 }
 
@@ -91,7 +78,7 @@ pub fn words_named<'a>(ledger: &'a [u32], verb: &str, fields: &[u32]) -> Option<
     match fields {
         [] if verb == "head" => ledger.get(..HEAD_WORDS),
         [reference] => {
-            let layout = Layout::of(ledger);
+            let layout = Layout::of(ledger)?;
             let row = ledger.get(layout.row_start(*reference)?..)?;
             row.get(layout.part_of_row(verb)?)
         }
@@ -101,6 +88,29 @@ pub fn words_named<'a>(ledger: &'a [u32], verb: &str, fields: &[u32]) -> Option<
 
 // The word at a place in the row of a reference, or in what follows it.
 pub fn word_of_row_mut(ledger: &mut [u32], reference: u32, place: u32) -> Option<&mut u32> {
-    let start = Layout::of(ledger).row_start(reference)?;
+    let start = Layout::of(ledger)?.row_start(reference)?;
     ledger.get_mut(start..)?.get_mut(place as usize)
+}
+
+// The postings of a path.
+pub fn postings_of<'a>(ledger: &[u32], postings: &'a [u32], path: u32) -> Option<&'a [u32]> {
+    let layout = Layout::of(ledger)?;
+    let from_path = postings.get(layout.postings_start(path)?..)?;
+    from_path.get(..layout.size.hours)
+}
+
+// The posting of an hour of a path.
+pub fn posting_mut<'a>(
+    ledger: &[u32],
+    postings: &'a mut [u32],
+    path: u32,
+    hour: u32,
+) -> Option<&'a mut u32> {
+    let layout = Layout::of(ledger)?;
+    let hour = hour as usize;
+    if layout.size.hours <= hour {
+        return None;
+    }
+    let from_path = postings.get_mut(layout.postings_start(path)?..)?;
+    from_path.get_mut(hour)
 }

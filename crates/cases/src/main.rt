@@ -18,9 +18,6 @@ use std::io;
 use std::io::Read;
 use text::Line;
 
-// The longest script.
-const SCRIPT_BYTES: usize = 524288;
-
 // The ledger and the postings, and the counts so far.
 #[derive(Drop)]
 struct Run {
@@ -29,11 +26,11 @@ struct Run {
 }
 
 impl Run {
-    fn new(alloc: Global) -> io::Result<Run> {
-        Ok(Run {
-            desk: Desk::new(alloc)?,
+    fn new(alloc: Global) -> Run {
+        Run {
+            desk: Desk::new(alloc),
             counts: Counts::default(),
-        })
+        }
     }
 
     // A line carried out. An action is counted also where it altered what must stay.
@@ -89,26 +86,16 @@ impl Run {
     }
 }
 
-// The script on standard input, as far as there is place for it.
 fn read_script(rt: &(impl Input + AllocGlobal)) -> io::Result<Vec<u8>> {
     let mut script = Vec::new(rt.alloc());
-    rt.reader()
-        .take(SCRIPT_BYTES as u64)
-        .read_to_end(&mut script)?;
+    rt.reader().read_to_end(&mut script)?;
     Ok(script)
 }
 
 fn main(rt: HostRuntime) -> io::Result<()> {
     let script = read_script(&rt)?;
-    let mut run = Run::new(rt.alloc())?;
+    let mut run = Run::new(rt.alloc());
     run.run_script(&rt, &script)?;
-    if script.len() == SCRIPT_BYTES {
-        let place = Place {
-            case: b"",
-            line: b"",
-        };
-        run.fail(&rt, place, &Unfit::LongScript)?;
-    }
     let counts = run.counts;
     println!(&rt; "{counts}")
 }

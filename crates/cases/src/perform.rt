@@ -1,18 +1,12 @@
 // A line carried out on the words that are lent.
 use crate::lent::Lent;
-use crate::look::Layout;
 use crate::report::Unfit;
-use crate::text::{Line, MOST_NUMBERS};
+use crate::text::{Line, exactly};
 use crate::{ask, look};
 use layout::create::Creation;
 use layout::numbers::DISPLACED;
 use rules::{Action, Answer, Contest, Kind, number_of};
 use std::alloc::{AllocError, Global};
-
-// The longest ledger, and the longest postings.
-const LEDGER_WORDS: usize = 24576;
-
-const POSTINGS_WORDS: usize = 49152;
 
 // A charge is shown as its millions of cents and the rest.
 const MILLION: u64 = 1000000;
@@ -57,11 +51,11 @@ pub struct Desk {
 }
 
 impl Desk {
-    pub fn new(alloc: Global) -> Result<Desk, AllocError> {
-        Ok(Desk {
-            ledger: Lent::new(alloc, LEDGER_WORDS)?,
-            postings: Lent::new(alloc, POSTINGS_WORDS)?,
-        })
+    pub fn new(alloc: Global) -> Desk {
+        Desk {
+            ledger: Lent::new(alloc),
+            postings: Lent::new(alloc),
+        }
     }
 
     pub fn perform(&mut self, alloc: Global, line: &Line) -> Result<Shown, Unfit> {
@@ -98,8 +92,8 @@ impl Desk {
             "open" => numbers.push(self.open(fields)?)?,
             "annuls" => numbers.push(u32::from(self.annuls(fields)))?,
             "charge" => numbers.extend_from_slice(&self.charge(fields)?)?,
-            "altered" => numbers.push(self.ledger.altered())?,
-            "altered-postings" => numbers.push(self.postings.altered())?,
+            "altered" => numbers.push(u32::try_from(self.ledger.altered())?)?,
+            "altered-postings" => numbers.push(u32::try_from(self.postings.altered())?)?,
             _ => numbers.extend_from_slice(self.words_named(verb, fields)?)?,
         }
         Ok(numbers)
@@ -107,10 +101,8 @@ impl Desk {
 
     // A length for the ledger.
     fn lend_ledger(&mut self, fields: &[u32]) -> Result<(), Unfit> {
-        let [count] = fields else {
-            return Err(Unfit::Unreadable);
-        };
-        self.ledger.lend(*count).ok_or(Unfit::LongLedger)?;
+        let [count] = exactly::<1>(fields)?;
+        self.ledger.lend(count)?;
         Ok(())
     }
 
@@ -119,14 +111,13 @@ impl Desk {
         let ([count, megawatts], []) = (fields, expected) else {
             return Err(Unfit::Unreadable);
         };
-        let postings = self.postings.lend(*count).ok_or(Unfit::LongPostings)?;
-        postings.fill(*megawatts);
+        self.postings.lend(*count)?.fill(*megawatts);
         Ok(())
     }
 
-    fn keep_copies(&mut self) {
-        self.ledger.keep_copy();
-        self.postings.keep_copy();
+    fn keep_copies(&mut self) -> Result<(), AllocError> {
+        self.ledger.keep_copy()?;
+        self.postings.keep_copy()
     }
 
     // All words are as their copies, but for those that may have been altered.
@@ -141,10 +132,8 @@ impl Desk {
 
     // A refusal must alter nothing. The postings are no part of it.
     fn create(&mut self, fields: &[u32]) -> Result<u32, Unfit> {
-        let &[rows, hours, provider, window, base] = fields else {
-            return Err(Unfit::Unreadable);
-        };
-        self.ledger.keep_copy();
+        let [rows, hours, provider, window, base] = exactly::<5>(fields)?;
+        self.ledger.keep_copy()?;
         let ledger = self.ledger.words_mut();
         let new = Creation {
             rows,
@@ -168,7 +157,7 @@ impl Desk {
 
     // A refusal must alter nothing, a posting no word of the ledger, and any other action no posting.
     fn act(&mut self, action: Action, profile: &[u32]) -> Result<Answer, Unfit> {
-        self.keep_copies();
+        self.keep_copies()?;
         let answer = self.answer_action(action, profile);
         self.check_copies(match (answer.number, Kind::try_from(action.kind)) {
             (0, Ok(Kind::Post)) => MayAlter::Postings,
@@ -194,7 +183,7 @@ impl Desk {
             challenger,
             holder,
         };
-        self.keep_copies();
+        self.keep_copies()?;
         let answer = self.answer_contest(terms, moves, replies);
         self.check_copies(match answer.after {
             DISPLACED => MayAlter::Ledger,
@@ -218,10 +207,8 @@ impl Desk {
 
     // The number of the charge of a row, its millions of cents and the cents beyond them.
     fn charge(&self, fields: &[u32]) -> Result<[u32; 3], Unfit> {
-        let [reference] = fields else {
-            return Err(Unfit::Unreadable);
-        };
-        let charged = readout::charge(self.ledger.words(), *reference);
+        let [reference] = exactly::<1>(fields)?;
+        let charged = readout::charge(self.ledger.words(), reference);
         let cents = charged.unwrap_or(0);
         let millions = cents / MILLION % (1 << 32);
         Ok([
@@ -236,44 +223,38 @@ impl Desk {
         readout::profile_in_force(self.ledger.words(), reference)
     }
 
-    // The words of the ledger, or the postings, that a line names, where they are not more than a line may have.
+    // The words of the ledger, or the postings, that a line names.
     fn words_named(&self, verb: &str, fields: &[u32]) -> Result<&[u32], Unfit> {
         let ledger = self.ledger.words();
         let words = match (verb, fields) {
             ("profile", [reference]) => Some(self.profile_in_force(*reference)),
-            ("posted", [path]) => Layout::of(ledger).postings_of(self.postings.words(), *path),
+            ("posted", [path]) => look::postings_of(ledger, self.postings.words(), *path),
             _ => look::words_named(ledger, verb, fields),
         };
-        words
-            .filter(|words| words.len() <= MOST_NUMBERS)
-            .ok_or(Unfit::Unreadable)
+        words.ok_or(Unfit::Unreadable)
     }
 
     // place in the head, word
     fn spoil_head(&mut self, fields: &[u32]) -> Result<(), Unfit> {
-        let &[place, word] = fields else {
-            return Err(Unfit::Unreadable);
-        };
+        let [place, word] = exactly::<2>(fields)?;
         spoil(self.ledger.words_mut().get_mut(place as usize), word)
     }
 
     // reference, place in its row, word
     fn spoil_row(&mut self, fields: &[u32]) -> Result<(), Unfit> {
-        let &[reference, place, word] = fields else {
-            return Err(Unfit::Unreadable);
-        };
+        let [reference, place, word] = exactly::<3>(fields)?;
         let ledger = self.ledger.words_mut();
         spoil(look::word_of_row_mut(ledger, reference, place), word)
     }
 
     // path, hour, word
     fn spoil_posting(&mut self, fields: &[u32]) -> Result<(), Unfit> {
-        let &[path, hour, word] = fields else {
-            return Err(Unfit::Unreadable);
-        };
-        let layout = Layout::of(self.ledger.words());
+        let [path, hour, word] = exactly::<3>(fields)?;
         let postings = self.postings.words_mut();
-        spoil(layout.posting_mut(postings, path, hour), word)
+        spoil(
+            look::posting_mut(self.ledger.words(), postings, path, hour),
+            word,
+        )
     }
 }
 

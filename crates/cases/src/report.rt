@@ -1,16 +1,14 @@
 // What is printed, and why a line fails.
 use std::alloc::{AllocError, AllocFailed};
 use std::error::Error;
+use std::num::TryFromIntError;
 use std::{fmt, io};
 
-// Why a line, or the script, is not carried out as it should be.
+// Why a line is not carried out as it should be.
 #[derive(Clone, Copy, Debug, PartialEq, Eq)]
 pub enum Unfit {
     Unreadable,
     Altered,
-    LongLedger,
-    LongPostings,
-    LongScript,
     NoMemory(AllocError),
 }
 
@@ -19,9 +17,6 @@ impl fmt::Display for Unfit {
         f.write_str(match self {
             Unfit::Unreadable => "cannot be read",
             Unfit::Altered => "altered a word that must stay",
-            Unfit::LongLedger => "longer than any ledger here",
-            Unfit::LongPostings => "longer than any postings here",
-            Unfit::LongScript => "the script is too long",
             Unfit::NoMemory(_) => "out of memory",
         })
     }
@@ -38,6 +33,13 @@ impl From<AllocError> for Unfit {
 impl<T: Drop> From<AllocFailed<T>> for Unfit {
     fn from(error: AllocFailed<T>) -> Unfit {
         Unfit::NoMemory(AllocError::from(error))
+    }
+}
+
+// A number that no word holds.
+impl From<TryFromIntError> for Unfit {
+    fn from(_: TryFromIntError) -> Unfit {
+        Unfit::Unreadable
     }
 }
 

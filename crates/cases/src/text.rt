@@ -2,8 +2,8 @@
 use crate::report::Unfit;
 use std::alloc::Global;
 
-// At most so many numbers stand in one part of a line.
-pub const MOST_NUMBERS: usize = 32;
+// At most so many numbers stand in one part of a line: a rule of the script, which its head states.
+const MOST_NUMBERS: usize = 32;
 
 // A line: its verb, and the numbers before a colon, those after it, and those after an equals sign.
 #[derive(Drop)]
@@ -26,6 +26,11 @@ impl<'a> Line<'a> {
             expected: numbers_in(alloc, expected)?,
         })
     }
+}
+
+// Numbers of which there are to be so many.
+pub fn exactly<const N: usize>(numbers: &[u32]) -> Result<[u32; N], Unfit> {
+    <[u32; N]>::try_from(numbers).map_err(|_| Unfit::Unreadable)
 }
 
 // What stands before the first such character, and what after it: nothing where there is none.

@@ -1,2 +1,3 @@
 pub mod Profiles
+pub mod Requests
 pub mod Sets

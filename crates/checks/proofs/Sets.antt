@@ -40,5 +40,4 @@ in_held w s (suc n) l =
     ∙ simp (among_pick, same_bit w s n (eqb s n) refl, below_suc s n, and-or_distrib_right, or_assoc)
 
 pub in_members : (w s : ℕ) → (s among members w) ≡ (leb s most_status && bit w s)
-unfolding members
 in_members w s = in_held w s (suc most_status) [] ∙ simp (or-false, leb-suc-suc s most_status)

@@ -14,5 +14,5 @@ held zero w l = l
 held (suc n) w l = held n w (pick (bit w n) (n ∷ l) l)
 
 -- the statuses whose bits are set in w
-unfoldable pub members : ℕ → List ℕ
+abbrev pub members : ℕ → List ℕ
 members w = held (suc most_status) w []

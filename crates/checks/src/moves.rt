@@ -1,17 +1,16 @@
 // The moves between statuses.
-ghost use Rattle.std.specs.Prelude.{◌≡◌, ◌<◌};
+ghost use Rattle.std.specs.Prelude.{◌≡◌};
 ghost use Rattle.rules.specs.Pick.{◌among◌};
-ghost use Rattle.rules.specs.Layout.{Sized, row};
 ghost use Rattle.rules.specs.Moves.{allowed, seller_moves, customer_moves, seller_may, customer_may};
+ghost use Rattle.layout.specs.Rows.{own};
 ghost use Rattle.checks.specs.Sets.{members};
 
 use layout::numbers::{
     ACCEPTED, ANNULLED, CONFIRMED, COORDINATED, COUNTERED, COUNTEROFFER, CR_ACCEPTED,
-    CR_COUNTEROFFER, DECLINED, DISPLACED, FLAGS, INVALID, MOST_STATUS, PRECONFIRMED, QUEUED, REBID,
+    CR_COUNTEROFFER, DECLINED, DISPLACED, INVALID, MOST_STATUS, PRECONFIRMED, QUEUED, REBID,
     RECEIVED, REFUSED, RELINQUISH, REQTYPE, STATUS, STUDY, SUPERSEDED, WITHDRAWN,
 };
-use layout::rows::{has_flag, word_at};
-use layout::size::Size;
+use layout::row::Row;
 
 // Sets of statuses, bit s for status s: 1, 3, 4; 1, 3, 4, 8; 6, 7; 10, 11; the open ones. As words they are joined by
 // `|` and one test serves all, where patterns would list the same statuses again.
@@ -26,6 +25,7 @@ const TAKEN: u32 = 1 << ACCEPTED | 1 << CR_ACCEPTED;
 pub const OPEN: u32 = ASKED | COUNTEROFFERS | TAKEN;
 
 // A number over 17 is no status.
+#[tactic(auto, using(crate::proofs::Sets::in_members))]
 pub fn is_in(status: u32, set: u32) -> bool
     ensures { result ≡ (status among members set) }
 {
@@ -34,6 +34,7 @@ pub fn is_in(status: u32, set: u32) -> bool
 
 // The moves to a new status, by the old ones they start from.
 
+#[tactic(auto, unfolding(rules::specs::Moves::allowed, rules::specs::Moves::seller_moves, crate::specs::Sets::held))]
 pub fn seller_may(
     new: u32,
     status: u32,
@@ -61,6 +62,7 @@ pub fn seller_may(
     }
 }
 
+#[tactic(auto, unfolding(rules::specs::Moves::allowed, rules::specs::Moves::customer_moves, crate::specs::Sets::held))]
 pub fn customer_may(new: u32, status: u32, preconfirmed: bool, countered: bool) -> bool
     ensures { result ≡ allowed (customer_moves preconfirmed countered) new status }
 {
@@ -75,29 +77,25 @@ pub fn customer_may(new: u32, status: u32, preconfirmed: bool, countered: bool) 
     }
 }
 
-// The seller, the customer of row n may move it to a new status.
+// The seller, the customer of the row may move it to a new status.
 
-pub fn seller_may_row(l: &[u32], size: Size, n: usize, new: u32) -> bool
-    requires sized { Sized l.now size.rows size.hours }
-    requires n_lt_rows { n < size.rows }
-    ensures { result ≡ seller_may (row size.hours l.now n) new }
+#[tactic(auto, unfolding(rules::specs::Moves::seller_may))]
+pub fn seller_may_row(row: Row, new: u32) -> bool
+    ensures { result ≡ seller_may (own row.entry) new }
 {
-    let status = word_at(l, size, n, STATUS);
-    let flags = word_at(l, size, n, FLAGS);
-    let preconfirmed = has_flag(flags, PRECONFIRMED);
-    let coordinated = has_flag(flags, COORDINATED);
-    let relinquish = word_at(l, size, n, REQTYPE) == RELINQUISH;
+    let status = row.word(STATUS);
+    let preconfirmed = row.has(PRECONFIRMED);
+    let coordinated = row.has(COORDINATED);
+    let relinquish = row.word(REQTYPE) == RELINQUISH;
     seller_may(new, status, preconfirmed, coordinated, relinquish)
 }
 
-pub fn customer_may_row(l: &[u32], size: Size, n: usize, new: u32) -> bool
-    requires sized { Sized l.now size.rows size.hours }
-    requires n_lt_rows { n < size.rows }
-    ensures { result ≡ customer_may (row size.hours l.now n) new }
+#[tactic(auto, unfolding(rules::specs::Moves::customer_may))]
+pub fn customer_may_row(row: Row, new: u32) -> bool
+    ensures { result ≡ customer_may (own row.entry) new }
 {
-    let status = word_at(l, size, n, STATUS);
-    let flags = word_at(l, size, n, FLAGS);
-    let preconfirmed = has_flag(flags, PRECONFIRMED);
-    let countered = has_flag(flags, COUNTERED);
+    let status = row.word(STATUS);
+    let preconfirmed = row.has(PRECONFIRMED);
+    let countered = row.has(COUNTERED);
     customer_may(new, status, preconfirmed, countered)
 }

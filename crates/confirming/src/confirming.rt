@@ -1,29 +1,32 @@
 // Confirming row n of a ledger with the megawatts mw granted: its checks, whether it would carry a word over 100,000,
-// and what it writes.
+// and what it writes. What writes does so in place: a function that returns a `&mut` part of a slice gets no proof.
 ghost use Rattle.std.specs.Prelude.{◌≡◌, true, false, ◌+◌, ◌<◌, ◌≤◌, length};
-ghost use Rattle.rules.specs.Numbers.{most_hours, most_flags, CONFIRMED as confirmed_status, RELINQUISH as relinquish};
-ghost use Rattle.rules.specs.Layout.{Sized, row, on_row, reqtype, start, flags, set_status, row_size, span_hours};
+ghost use Rattle.rules.specs.Numbers.{approved, most_hours, most_flags, CONFIRMED as confirmed_status, RELINQUISH as relinquish};
+ghost use Rattle.rules.specs.Layout.{has, Sized, row, on_row, reqtype, start, flags, set_status, row_size, span_hours};
 ghost use Rattle.rules.specs.Sound.{original};
 ghost use Rattle.rules.specs.Megawatts.{grant, in_force};
-ghost use Rattle.rules.specs.Confirming.{held, emptied, confirm_original, confirm_derived, confirm_relinquish, confirm as confirmed, unapproved, unconfirmed, short, same_span, partial, confirm_number};
+ghost use Rattle.rules.specs.Confirming.{held, emptied, confirm_original, confirm_derived, confirm_relinquish};
+ghost use Rattle.rules.specs.Confirming.{confirm as confirmed};
+ghost use Rattle.rules.specs.Confirming.{unapproved, unconfirmed, short, same_span, partial, confirm_number};
 ghost use Rattle.rules.specs.Refusals.{number_of};
 ghost use Rattle.rules.proofs.Seen.{Room};
 ghost use Rattle.rules.proofs.SoundFacts.{SoundWords};
 ghost use Rattle.rules.proofs.Over.{over_confirming};
-ghost use Rattle.megawatts.specs.Placed.{Placed};
+ghost use Rattle.layout.specs.Placed.{Placed};
+ghost use Rattle.layout.specs.Rows.{own};
 
-use layout::class::is_original;
+use layout::class::{is_original, is_transfer};
 use layout::numbers::{
-    CONFIRMED, FLAGS, FULL_TRANSFER, GRANTED_GIVEN, MOST_HOURS, RELINQUISH, REQTYPE, START, STATUS,
-    STOP,
+    APPROVED, CONFIRMED, FLAGS, FULL_TRANSFER, GRANTED_GIVEN, MOST_HOURS, RELINQUISH, REQTYPE,
+    START, STATUS, STOP,
 };
 use layout::profile::Profile;
-use layout::rows::{clear_hours, flag_raised, has_flag, set_hours, word_at};
+use layout::reservation::Reservation;
+use layout::row::Row;
+use layout::rows::{clear_hours, flag_raised, has_flag, set_hours};
 use layout::size::Size;
-use megawatts::giving::{covers_at, equals_at, full_at, give_back, take_from};
-use megawatts::reading::{
-    copy_in_force, count_of, in_force, is_confirmed, is_transfer, related_of, start_of,
-};
+use megawatts::giving::{full, give_back, take_from};
+use megawatts::reading::copy_in_force;
 use rules::Refusal;
 
 // What is written in the row itself, which is lent.
@@ -39,6 +42,7 @@ pub fn grant_row(r: &mut [u32], size: Size, start: usize, mw: &[u32])
 }
 
 // Granted becomes the profile in force: once given it stands, before that requested is copied.
+#[tactic(auto, using(crate::proofs::Laws::granted))]
 pub fn grant_own_row(r: &mut [u32], size: Size)
     requires r_len { length r.old ≡ row_size size.hours }
     requires sound_words { SoundWords size.hours r.old }
@@ -88,7 +92,7 @@ fn empty_row(r: &mut [u32], size: Size, start: usize, mw: &[u32])
 
 // Row n of the ledger is CONFIRMED: with mw available, or with nothing.
 
-// In place: a function that returns a `&mut` part of a slice gets no proof.
+#[tactic(auto, using(crate::proofs::Laws::lent))]
 fn hold(l: &mut [u32], size: Size, n: usize, start: usize, mw: &[u32])
     requires sized { Sized l.old size.rows size.hours }
     requires n_lt_rows { (n < size.rows) × (start + length mw.now ≤ size.hours) }
@@ -99,7 +103,7 @@ fn hold(l: &mut [u32], size: Size, n: usize, start: usize, mw: &[u32])
     hold_row(&mut l[at..at + size.row_words()], size, start, mw);
 }
 
-// In place: a function that returns a `&mut` part of a slice gets no proof.
+#[tactic(auto, using(crate::proofs::Laws::lent))]
 fn empty(l: &mut [u32], size: Size, n: usize, start: usize, mw: &[u32])
     requires sized { Sized l.old size.rows size.hours }
     requires n_lt_rows { (n < size.rows) × (start + length mw.now ≤ size.hours) }
@@ -118,7 +122,8 @@ fn confirm_original(l: &mut [u32], size: Size, n: usize, mw: &[u32])
     requires mw_len { length mw.now ≡ span_hours (row size.hours l.old n) }
     ensures { l.new ≡ confirm_original size.hours n mw.now l.old }
 {
-    let start = start_of(&l[..], size, n);
+    let r = Reservation::new(&l[..], size, n);
+    let start = r.row.start();
     hold(l, size, n, start, mw);
 }
 
@@ -130,8 +135,9 @@ fn confirm_derived(l: &mut [u32], size: Size, n: usize, mw: &[u32])
     requires n_value { original (reqtype (row size.hours l.old n)) ≡ false }
     ensures { l.new ≡ confirm_derived size.hours n mw.now l.old }
 {
-    let start = start_of(&l[..], size, n);
-    let above = related_of(&l[..], size, n);
+    let r = Reservation::new(&l[..], size, n);
+    let start = r.row.start();
+    let above = r.row.related_row();
     take_from(l, size, above, start, mw);
     hold(l, size, n, start, mw);
 }
@@ -145,9 +151,10 @@ fn confirm_relinquish(l: &mut [u32], size: Size, n: usize, mw: &[u32])
     requires n_value { reqtype (row size.hours l.old n) ≡ relinquish }
     ensures { l.new ≡ confirm_relinquish size.hours n mw.now l.old }
 {
-    let start = start_of(&l[..], size, n);
-    let redirect = related_of(&l[..], size, n);
-    let above = related_of(&l[..], size, redirect);
+    let r = Reservation::new(&l[..], size, n);
+    let start = r.row.start();
+    let redirect = r.row.related_row();
+    let above = r.related().row.related_row();
     take_from(l, size, redirect, start, mw);
     give_back(l, size, above, start, mw);
     empty(l, size, n, start, mw);
@@ -161,7 +168,8 @@ fn confirm(l: &mut [u32], size: Size, n: usize, mw: &[u32])
     requires mw_value_2 { over_confirming size.hours l.old n mw.now ≡ false }
     ensures { l.new ≡ confirmed size.hours n mw.now l.old }
 {
-    let reqtype = word_at(&l[..], size, n, REQTYPE);
+    let r = Reservation::new(&l[..], size, n);
+    let reqtype = r.row.word(REQTYPE);
     if is_original(reqtype) {
         confirm_original(l, size, n, mw);
     } else if reqtype == RELINQUISH {
@@ -171,88 +179,73 @@ fn confirm(l: &mut [u32], size: Size, n: usize, mw: &[u32])
     }
 }
 
-// The checks of confirming.
+// The checks of confirming. That the megawatts are one for each hour of the span is a clause: they come from the row or
+// from the words lent, and a value of both would be made, and shown, at each call.
 
 #[tactic(auto, unfolding(rules::specs::Confirming::unapproved))]
-fn is_unapproved(l: &[u32], size: Size, n: usize, approved: bool) -> bool
-    requires { Placed l.now size.rows size.hours n }
-    ensures { result ≡ unapproved size.hours l.now n approved }
+fn is_unapproved(r: Reservation, approved: bool) -> bool
+    ensures { let row = r.entry.row in result ≡ unapproved row.size.hours row.words.now row.n approved }
 {
-    is_transfer(word_at(l, size, n, REQTYPE)) && !approved
+    is_transfer(r.row.word(REQTYPE)) && !approved
 }
 
-#[tactic(auto, using(crate::proofs::Laws::related), unfolding(rules::specs::Confirming::unconfirmed))]
-fn is_unconfirmed(l: &[u32], size: Size, n: usize) -> bool
-    requires { Placed l.now size.rows size.hours n }
-    ensures { result ≡ unconfirmed size.hours l.now n }
+#[tactic(auto, unfolding(rules::specs::Confirming::unconfirmed))]
+fn is_unconfirmed(r: Reservation) -> bool
+    ensures { let row = r.entry.row in result ≡ unconfirmed row.size.hours row.words.now row.n }
 {
-    if is_original(word_at(l, size, n, REQTYPE)) {
-        return false;
+    match r.above() {
+        None => false,
+        Some(above) => !above.row.is_confirmed(),
     }
-    let above = related_of(l, size, n);
-    !is_confirmed(l, size, above)
 }
 
-#[tactic(auto, using(crate::proofs::Laws::related), unfolding(rules::specs::Confirming::short, rules::specs::Confirming::drawn_from))]
-fn is_short(l: &[u32], size: Size, n: usize, mw: &[u32]) -> bool
-    requires placed { Placed l.now size.rows size.hours n }
-    requires mw_len { length mw.now ≡ span_hours (row size.hours l.now n) }
-    ensures { result ≡ short size.hours l.now n mw.now }
+#[tactic(auto, unfolding(rules::specs::Confirming::short, rules::specs::Confirming::drawn_from))]
+fn is_short(r: Reservation, mw: &[u32]) -> bool
+    requires { length mw.now ≡ span_hours (own r.row) }
+    ensures { let row = r.entry.row in result ≡ short row.size.hours row.words.now row.n mw.now }
 {
-    if is_original(word_at(l, size, n, REQTYPE)) {
-        return false;
+    match r.above() {
+        None => false,
+        Some(above) => !above.row.covers(Profile::Available, r.row.start(), mw),
     }
-    let start = start_of(l, size, n);
-    let above = related_of(l, size, n);
-    !covers_at(l, size, above, start, mw)
 }
 
 #[tactic(auto, unfolding(rules::specs::Confirming::same_span))]
-fn same_span(l: &[u32], size: Size, n: usize, m: usize) -> bool
-    requires sized { Sized l.now size.rows size.hours }
-    requires n_lt_rows { (n < size.rows) × (m < size.rows) }
-    ensures { result ≡ same_span (row size.hours l.now n) (row size.hours l.now m) }
+fn same_span(a: Row, b: Row) -> bool
+    ensures { result ≡ same_span (own a.entry) (own b.entry) }
 {
-    word_at(l, size, n, START) == word_at(l, size, m, START)
-        && word_at(l, size, n, STOP) == word_at(l, size, m, STOP)
+    a.word(START) == b.word(START) && a.word(STOP) == b.word(STOP)
 }
 
-#[tactic(auto, using(crate::proofs::Laws::related), unfolding(rules::specs::Confirming::partial, rules::specs::Confirming::drawn_from))]
-fn is_partial(l: &[u32], size: Size, n: usize, mw: &[u32]) -> bool
-    requires placed { Placed l.now size.rows size.hours n }
-    requires mw_len { length mw.now ≡ span_hours (row size.hours l.now n) }
-    ensures { result ≡ partial size.hours l.now n mw.now }
+#[tactic(auto, unfolding(rules::specs::Confirming::partial, rules::specs::Confirming::drawn_from))]
+fn is_partial(r: Reservation, mw: &[u32]) -> bool
+    requires { length mw.now ≡ span_hours (own r.row) }
+    ensures { let row = r.entry.row in result ≡ partial row.size.hours row.words.now row.n mw.now }
 {
-    if word_at(l, size, n, REQTYPE) != FULL_TRANSFER {
+    if r.row.word(REQTYPE) != FULL_TRANSFER {
         return false;
     }
-    let start = start_of(l, size, n);
-    let above = related_of(l, size, n);
-    !same_span(l, size, n, above) || !equals_at(l, size, above, start, mw)
+    #[tactic(auto, using(crate::proofs::Laws::related))]
+    let above = r.related().row;
+    !same_span(r.row, above) || !above.equals(Profile::Available, r.row.start(), mw)
 }
 
 #[tactic(auto, using(rules::proofs::Picks::choice), unfolding(rules::specs::Confirming::confirm_number))]
-pub fn check_confirm(
-    l: &[u32],
-    size: Size,
-    n: usize,
-    mw: &[u32],
-    approved: bool,
-) -> Result<(), Refusal>
-    requires placed { Placed l.now size.rows size.hours n }
-    requires mw_len { length mw.now ≡ span_hours (row size.hours l.now n) }
-    ensures { number_of result ≡ confirm_number size.hours l.now n mw.now approved }
+pub fn check_confirm(r: Reservation, mw: &[u32], approved: bool) -> Result<(), Refusal>
+    requires { length mw.now ≡ span_hours (own r.row) }
+    ensures { let row = r.entry.row in
+        number_of result ≡ confirm_number row.size.hours row.words.now row.n mw.now approved }
 {
-    if is_unapproved(l, size, n, approved) {
+    if is_unapproved(r, approved) {
         return Err(Refusal::Unapproved);
     }
-    if is_unconfirmed(l, size, n) {
+    if is_unconfirmed(r) {
         return Err(Refusal::WrongRelated);
     }
-    if is_short(l, size, n, mw) {
+    if is_short(r, mw) {
         return Err(Refusal::Short);
     }
-    if is_partial(l, size, n, mw) {
+    if is_partial(r, mw) {
         return Err(Refusal::Short);
     }
     Ok(())
@@ -260,36 +253,39 @@ pub fn check_confirm(
 
 // A relinquish record would give back more than the row has room for.
 #[tactic(auto, using(crate::proofs::Laws::related), unfolding(rules::proofs::Over::over_confirming))]
-pub fn over_confirming(l: &[u32], size: Size, n: usize, mw: &[u32]) -> bool
-    requires placed { Placed l.now size.rows size.hours n }
-    requires mw_len { length mw.now ≡ span_hours (row size.hours l.now n) }
-    ensures { result ≡ over_confirming size.hours l.now n mw.now }
+pub fn over_confirming(r: Reservation, mw: &[u32]) -> bool
+    requires { length mw.now ≡ span_hours (own r.row) }
+    ensures { let row = r.entry.row in result ≡ over_confirming row.size.hours row.words.now row.n mw.now }
 {
-    if word_at(l, size, n, REQTYPE) != RELINQUISH {
+    if r.row.word(REQTYPE) != RELINQUISH {
         return false;
     }
-    let start = start_of(l, size, n);
-    let redirect = related_of(l, size, n);
-    let above = related_of(l, size, redirect);
-    full_at(l, size, above, start, mw)
+    let above = r.related().related();
+    full(above.row, r.row.start(), mw)
 }
 
 // The same with the row's own profile in force.
 
-#[tactic(auto, using(megawatts::proofs::Laws::force_length))]
-pub fn check_confirm_own(l: &[u32], size: Size, n: usize, approved: bool) -> Result<(), Refusal>
-    requires { Placed l.now size.rows size.hours n }
-    ensures { number_of result ≡ confirm_number size.hours l.now n (in_force size.hours (row size.hours l.now n)) approved }
+pub fn check_confirm_own(r: Reservation, approved: bool) -> Result<(), Refusal>
+    ensures { let row = r.entry.row in let mw = in_force row.size.hours (own row) in
+        number_of result ≡ confirm_number row.size.hours row.words.now row.n mw approved }
 {
-    check_confirm(l, size, n, in_force(l, size, n), approved)
+    check_confirm(r, r.in_force(), approved)
 }
 
-#[tactic(auto, using(megawatts::proofs::Laws::force_length))]
-pub fn over_confirming_own(l: &[u32], size: Size, n: usize) -> bool
-    requires { Placed l.now size.rows size.hours n }
-    ensures { result ≡ over_confirming size.hours l.now n (in_force size.hours (row size.hours l.now n)) }
+// Approved, if the row is marked so.
+pub fn check_confirm_marked(r: Reservation) -> Result<(), Refusal>
+    ensures { let row = r.entry.row in let mw = in_force row.size.hours (own row) in
+        number_of result ≡ confirm_number row.size.hours row.words.now row.n mw (has approved (own row)) }
 {
-    over_confirming(l, size, n, in_force(l, size, n))
+    check_confirm_own(r, r.row.has(APPROVED))
+}
+
+pub fn over_confirming_own(r: Reservation) -> bool
+    ensures { let row = r.entry.row in let mw = in_force row.size.hours (own row) in
+        result ≡ over_confirming row.size.hours row.words.now row.n mw }
+{
+    over_confirming(r, r.in_force())
 }
 
 // Room for a copy of a span's hours: a day's, with some to spare, which is soon cleared; the longest.
@@ -307,7 +303,7 @@ fn confirm_copied<const N: usize>(l: &mut [u32], size: Size, n: usize, count: us
     ensures { l.new ≡ confirmed size.hours n (in_force size.hours (row size.hours l.old n)) l.old }
 {
     let mut own = [0u32; N];
-    copy_in_force(&mut own[..count], &l[..], size, n);
+    copy_in_force(&mut own[..count], Reservation::new(&l[..], size, n));
     confirm(l, size, n, &own[..count]);
 }
 
@@ -317,7 +313,8 @@ pub fn confirm_own(l: &mut [u32], size: Size, n: usize)
     requires n_value_2 { over_confirming size.hours l.old n (in_force size.hours (row size.hours l.old n)) ≡ false }
     ensures { l.new ≡ confirmed size.hours n (in_force size.hours (row size.hours l.old n)) l.old }
 {
-    let count = count_of(&l[..], size, n);
+    let r = Reservation::new(&l[..], size, n);
+    let count = r.count();
     if count <= SHORT_SPAN {
         confirm_copied::<SHORT_SPAN>(l, size, n, count);
     } else {

@@ -3,13 +3,12 @@ use mathlib.Core.Path.{◌≡◌, refl, sym, ap, ◌∙◌}
 use mathlib.Core.Logic.{◌≢◌}
 use mathlib.Core.Bool.{Bool, true, false, ◌||◌, not}
 use mathlib.Core.List.{List, []}
-use Prim.Native.Nat.{ℕ, ◌≤◌, ◌<◌}
-use native.Mathlib.Omega.{arith}
+use Prim.Native.Nat.{ℕ, ◌≤◌}
 use borrow.Author.Tests.{ne_eqb}
 use Rattle.words.specs.Lists.{total}
 use Rattle.rules.specs.Pick.{pick}
 use Rattle.rules.specs.Numbers.{CONFIRMED, DISPLACED}
-use Rattle.rules.specs.Layout.{rows, hours, used, row_of, row, available, span_hours, Sized}
+use Rattle.rules.specs.Layout.{rows, hours, used, row_of, row, available}
 use Rattle.rules.specs.Sound.{sound, firm}
 use Rattle.rules.specs.Megawatts.{displace}
 use Rattle.rules.specs.SellerStatus.{seller_number}
@@ -26,23 +25,11 @@ use Rattle.rules.proofs.Soundness.{both_facts}
 use Rattle.rules.proofs.Over.{over_displacing}
 use Rattle.rules.proofs.Contested.{displaced_by, row_lost, contest_passed, displacement_outcome}
 use Rattle.layout.specs.SoundAt.{SoundAt}
-use Rattle.megawatts.specs.Placed.{Placed}
-use Rattle.megawatts.proofs.Laws.{sized}
-use Rattle.megawatts.proofs.Named.{placed_at}
 use Rattle.ledger.proofs.Laws.{both_at}
 
 -- ---- the row that a contest names, once its displacement's own checks passed
 pub row_issued : (H : ℕ) (l : List ℕ) (k : Contest) → seller_number H l [] (displacing k) ≡ 0 → (1 ≤ k.reference) × (k.reference ≤ used l)
 row_issued H l k e = (seller_status_passed H l [] (displacing k) e).reference
-
-pub in_place : {l : List ℕ} {R H : ℕ} → SoundAt l R H → (k : Contest) → (1 ≤ k.reference) × (k.reference ≤ used l) → {n : ℕ} → n ≡ row_of k.reference → Placed l R H n
-in_place s k r z = placed_at s (omega (arith, r.0, r.1, z))
-
-pub in_rows : {l : List ℕ} {R H n : ℕ} → Placed l R H n → Sized l R H × (n < R)
-in_rows p = (sized p, omega (arith, p.row, p.rows, p.formed.head.used))
-
-pub present_says : (H : ℕ) (l : List ℕ) (k : Contest) {p n : ℕ} → p ≡ span_hours (row H l n) → n ≡ row_of k.reference → p ≡ present H l k
-present_says H l k x z = x ∙ ap (λ (m : ℕ). span_hours (row H l m)) z
 
 -- ---- the checks before the moves, of the values that calls gave
 -- those that every action has

@@ -1,5 +1,5 @@
 -- A contest's moves, in turn: what each test of a turn settles.
-use mathlib.Core.Path.{◌≡◌, refl, sym, ap, ◌∙◌}
+use mathlib.Core.Path.{◌≡◌, sym, ap, ◌∙◌}
 use mathlib.Core.Logic.{◌≢◌}
 use mathlib.Core.List.{List}
 use Prim.Native.Nat.{ℕ, suc, ◌+◌, ◌≤◌, ◌<◌}
@@ -18,9 +18,6 @@ pub record Playing (c h first : ℕ) (moves replies : List ℕ) (last i : ℕ) :
   pub named : i ≤ length moves
   pub matched : i ≤ length replies
   pub rest : play c h last (drop i moves) (drop i replies) ≡ play c h first moves replies
-
-pub playing_start : (c h first : ℕ) (moves replies : List ℕ) → Playing c h first moves replies first 0
-playing_start c h first moves replies = record { named = omega arith; matched = omega arith; rest = refl }
 
 module _ {c h first last i : ℕ} {moves replies : List ℕ} (P : Playing c h first moves replies last i) where
   abbrev term : ℕ

@@ -1,6 +1,7 @@
 // A contest for a firm row, on the words of a ledger that is lent. Postings are only read: no contest alters them.
 #![tactic(auto)]
 
+pub mod contested;
 pub mod number;
 pub mod playing;
 
@@ -10,8 +11,11 @@ ghost use Rattle.rules.specs.Contest.{ending, row_kept, contested, contest_numbe
 ghost use Rattle.rules.proofs.Contested.{row_lost};
 ghost use Rattle.layout.specs.SoundAt.{SoundAt};
 
+use crate::contested::Contested;
 use crate::number::{check_contest, present_term};
 use crate::playing::play;
+use layout::entry::Entry;
+use layout::ledger::Ledger;
 use layout::numbers::{CONFIRMED, DISPLACED};
 use layout::profile::Profile;
 use layout::size::Size;
@@ -21,13 +25,12 @@ use megawatts::moving::{displace, over_displacing};
 use rules::{Answer, Contest, Ending, Reference, Refusal};
 
 // How the moves end: the last term is at first the row's own hours.
-fn contest_ending(l: &[u32], size: Size, k: Contest, moves: &[u32], replies: &[u32]) -> Ending
-    requires sound_at { SoundAt l.now size.rows size.hours }
-    requires le_reference { (1 ≤ k.reference) × (k.reference ≤ used l.now) }
-    ensures { result ≡ ending size.hours l.now k moves.now replies.now }
+fn contest_ending(c: Contested, moves: &[u32], replies: &[u32]) -> Ending
+    ensures { let l = c.entry.row.ledger in
+        result ≡ ending l.size.hours l.words.now c.entry.contest moves.now replies.now }
 {
-    let present = present_term(l, size, k);
-    play(k.challenger, k.holder, present, moves, replies)
+    let k = c.contest;
+    play(k.challenger, k.holder, present_term(c), moves, replies)
 }
 
 #[tactic(auto, unfolding(rules::specs::Contest::row_kept))]
@@ -50,12 +53,19 @@ fn lose(l: &mut [u32], size: Size, k: Contest) -> Answer
     ensures answer { result ≡ (row_lost size.hours l.old [] k).answer }
     ensures ledger { l.new ≡ (row_lost size.hours l.old [] k).ledger }
 {
-    let row = rules::row_of(Reference(k.reference));
-    if over_displacing(&l[..], size, row.0) {
-        return refused(Refusal::Unsound.number());
+    let n = rules::row_of(Reference(k.reference)).0;
+    let row = Entry {
+        ledger: Ledger {
+            words: &l[..],
+            size,
+        },
+        n,
+    };
+    if over_displacing(row.reservation()) {
+        return refused(u32::from(Refusal::Unsound));
     }
-    let held = span_total(&l[..], size, row.0, Profile::Available);
-    displace(l, size, row.0);
+    let held = span_total(row, Profile::Available);
+    displace(l, size, n);
     Answer {
         number: 0,
         reference: k.reference,
@@ -72,11 +82,18 @@ fn play_out(l: &mut [u32], postings: &[u32], k: Contest, moves: &[u32], replies:
     ensures ledger { l.new ≡ (contested l.old postings.now k moves.now replies.now).ledger }
 {
     let size = size_of(&l[..]);
-    match contest_ending(&l[..], size, k, moves, replies) {
+    let row = Entry {
+        ledger: Ledger {
+            words: &l[..],
+            size,
+        },
+        n: rules::row_of(Reference(k.reference)).0,
+    };
+    match contest_ending(Contested { row, contest: k }, moves, replies) {
         Ending::Kept => row_kept(k),
         Ending::Lost => lose(l, size, k),
         Ending::Unfinished => row_kept(k),
-        Ending::Refused => refused(Refusal::TermOutOfRange.number()),
+        Ending::Refused => refused(u32::from(Refusal::TermOutOfRange)),
     }
 }
 
@@ -93,6 +110,6 @@ pub fn run_contest(
 {
     match check_contest(&l[..], postings, k) {
         Ok(()) => play_out(l, postings, k, moves, replies),
-        Err(refusal) => refused(refusal.number()),
+        Err(refusal) => refused(u32::from(refusal)),
     }
 }

@@ -1,17 +1,17 @@
 // The checks of a contest before its moves.
-ghost use Rattle.std.specs.Prelude.{◌≡◌, ◌≤◌};
-ghost use Rattle.rules.specs.Layout.{used};
+ghost use Rattle.std.specs.Prelude.{◌≡◌};
 ghost use Rattle.rules.specs.Contest.{present, bad_greatest, displacing as displacing_of, contest_checks, contest_number};
 ghost use Rattle.rules.specs.Refusals.{number_of};
-ghost use Rattle.layout.specs.SoundAt.{SoundAt};
 
+use crate::contested::Contested;
+use checks::request::Request;
 use layout::class::firm;
 use layout::create::is_from;
+use layout::entry::Entry;
+use layout::ledger::Ledger;
 use layout::numbers::DISPLACED;
-use layout::size::Size;
 use layout::sound::{size_of, sound_both};
 use ledger::numbering::check_common;
-use megawatts::reading::count_of;
 use rules::{Action, Contest, Kind, Reference, Refusal};
 use seller::number::check_seller_status;
 
@@ -20,56 +20,48 @@ fn displacing(k: Contest) -> Action
     ensures { result ≡ displacing_of k }
 {
     Action {
-        kind: Kind::SellerStatus.code(),
+        kind: u32::from(Kind::SellerStatus),
         actor: k.actor,
         reference: k.reference,
-        reqtype: 0,
         status: DISPLACED,
-        seller: 0,
-        related: 0,
-        start: 0,
-        stop: 0,
-        flags: 0,
-        price: 0,
-        time: 0,
-        offset: 0,
-        length: 0,
-        path: 0,
+        ..Action::default()
     }
 }
 
 // The row's own hours: the holder's present term.
-pub fn present_term(l: &[u32], size: Size, k: Contest) -> u32
-    requires sound_at { SoundAt l.now size.rows size.hours }
-    requires le_reference { (1 ≤ k.reference) × (k.reference ≤ used l.now) }
-    ensures { result ≡ present size.hours l.now k }
+pub fn present_term(c: Contested) -> u32
+    ensures { let l = c.entry.row.ledger in result ≡ present l.size.hours l.words.now c.entry.contest }
 {
-    let row = rules::row_of(Reference(k.reference));
-    count_of(l, size, row.0) as u32
+    c.row.reservation().count() as u32
 }
 
 // A greatest term is 0, above the ledger's hours or, for the holder, below its present one.
-fn bad_greatest(l: &[u32], size: Size, k: Contest) -> bool
-    requires sound_at { SoundAt l.now size.rows size.hours }
-    requires le_reference { (1 ≤ k.reference) × (k.reference ≤ used l.now) }
-    ensures { result ≡ bad_greatest size.hours l.now k }
+fn bad_greatest(c: Contested) -> bool
+    ensures { let l = c.entry.row.ledger in result ≡ bad_greatest l.size.hours l.words.now c.entry.contest }
 {
-    let most = size.hours as u32;
-    let present = present_term(l, size, k);
+    let most = c.row.ledger.size.hours as u32;
+    let k = c.contest;
+    let present = present_term(c);
     !is_from(k.challenger, 1, most) || (!is_from(k.holder, 1, most) || k.holder < present)
 }
 
 // The checks of a sound ledger. A displacement reads no profile.
-fn check_sound(l: &[u32], size: Size, k: Contest) -> Result<(), Refusal>
-    requires { SoundAt l.now size.rows size.hours }
-    ensures { number_of result ≡ contest_checks size.hours l.now k }
+fn check_sound(ledger: Ledger, k: Contest) -> Result<(), Refusal>
+    ensures { let l = ledger.entry in number_of result ≡ contest_checks l.size.hours l.words.now k }
 {
-    check_seller_status(l, &l[..0], size, displacing(k))?;
-    let row = rules::row_of(Reference(k.reference));
-    if !firm(l, size, row) {
+    let request = Request {
+        action: displacing(k),
+        words: &ledger.words[..0],
+    };
+    check_seller_status(ledger, request)?;
+    let row = Entry {
+        ledger,
+        n: rules::row_of(Reference(k.reference)).0,
+    };
+    if !firm(row.row()) {
         return Err(Refusal::WrongMove);
     }
-    if bad_greatest(l, size, k) {
+    if bad_greatest(Contested { row, contest: k }) {
         return Err(Refusal::TermOutOfRange);
     }
     Ok(())
@@ -80,5 +72,9 @@ pub fn check_contest(l: &[u32], postings: &[u32], k: Contest) -> Result<(), Refu
     ensures { number_of result ≡ contest_number l.now postings.now k }
 {
     check_common(sound_both(l, postings), displacing(k))?;
-    check_sound(l, size_of(l), k)
+    let ledger = Ledger {
+        words: l,
+        size: size_of(l),
+    };
+    check_sound(ledger, k)
 }

@@ -9,6 +9,7 @@ pub fn play(challenger: u32, holder: u32, present: u32, moves: &[u32], replies: 
     ensures { result ≡ play_of challenger holder present moves.now replies.now }
 {
     let mut last = present;
+    // Replies by place: of an iterator over them an invariant would have to say what it has left.
     for (i, term) in moves.iter().enumerate() {
         let term = *term;
         if term == 0 {

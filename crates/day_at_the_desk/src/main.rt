@@ -5,6 +5,7 @@
 use layout::create::Creation;
 use layout::numbers::*;
 use rules::{Action, Answer, Kind};
+use std::alloc::Global;
 use std::ops::Range;
 use std::{fmt, io};
 
@@ -32,158 +33,210 @@ const FIRST_PATH: u32 = 1;
 
 const SECOND_PATH: u32 = 2;
 
-const ACTIONS: usize = 14;
-
 // What is posted of either path.
-const POSTED_WORDS: [u32; DESK_HOURS] = [100, 100, 100, 100];
+const POSTED: [u32; DESK_HOURS] = [100, 100, 100, 100];
 
-// The profiles one after the other: the original, the first resale, the redirect, the second resale, the
-// relinquishment.
-const PROFILE_WORDS: [u32; 10] = [100, 100, 100, 100, 40, 60, 40, 50, 1, 20];
+// The profiles of the day, hour by hour.
+const ORIGINAL: &[u32] = &[100, 100, 100, 100];
 
-const ORIGINAL_AT: u32 = 0;
+const FIRST_RESALE: &[u32] = &[40, 60];
 
-const RESALE_AT: u32 = 4;
+const REDIRECT: &[u32] = &[40, 50];
 
-const REDIRECT_AT: u32 = 6;
+const SECOND_RESALE: &[u32] = &[1];
 
-const SECOND_RESALE_AT: u32 = 8;
+const GIVEN_UP: &[u32] = &[20];
 
-const RELINQUISH_AT: u32 = 9;
-
-// What an action has in the fields that it does not name.
-const NO_ACTION: Action = Action {
-    kind: 0,
-    actor: 0,
-    reference: 0,
-    reqtype: 0,
-    status: 0,
-    seller: 0,
-    related: 0,
-    start: 0,
-    stop: 0,
-    flags: 0,
-    price: 0,
-    time: 0,
-    offset: 0,
-    length: 0,
-    path: 0,
-};
+// An action, and the profile that comes with it. Where this lies in the words lent is told by `Batch`.
+#[derive(Clone, Copy)]
+struct Request<'a> {
+    action: Action,
+    profile: &'a [u32],
+}
 
 // A posting of the provider, of all hours of a path.
-fn post(path: u32) -> Action {
-    Action {
-        kind: Kind::Post.code(),
-        actor: DESK_PROVIDER,
-        stop: DESK_HOURS as u32,
-        length: DESK_HOURS as u32,
-        path,
-        ..NO_ACTION
+fn post(path: u32) -> Request<'static> {
+    Request {
+        action: Action {
+            kind: u32::from(Kind::Post),
+            actor: DESK_PROVIDER,
+            stop: DESK_HOURS as u32,
+            path,
+            ..Action::default()
+        },
+        profile: &POSTED,
     }
 }
 
-// What is asked for: the hours, the bid, and where the profile starts in PROFILE_WORDS.
+// What is asked for: the hours, the bid and the profile.
 #[derive(Drop)]
-struct Terms {
+struct Terms<'a> {
     hours: Range<u32>,
     bid: u32,
-    offset: u32,
+    profile: &'a [u32],
 }
 
-impl Terms {
-    fn new(hours: Range<u32>, bid: u32, offset: u32) -> Terms {
-        Terms { hours, bid, offset }
+impl<'a> Terms<'a> {
+    fn new(hours: Range<u32>, bid: u32, profile: &'a [u32]) -> Terms<'a> {
+        Terms {
+            hours,
+            bid,
+            profile,
+        }
+    }
+
+    // A submission that asks for this.
+    fn asked_by(self, submission: Action) -> Request<'a> {
+        let Range { start, end: stop } = self.hours;
+        Request {
+            action: Action {
+                start,
+                stop,
+                price: self.bid,
+                ..submission
+            },
+            profile: self.profile,
+        }
     }
 }
 
-// A request to the provider for the first path.
-fn submit(customer: u32, reqtype: u32, terms: Terms) -> Action {
-    let Range { start, end: stop } = terms.hours;
+// A submission to the provider for the first path, without what is asked for.
+fn submit(customer: u32, reqtype: u32) -> Action {
     Action {
-        kind: Kind::Submit.code(),
+        kind: u32::from(Kind::Submit),
         actor: customer,
         reqtype,
         seller: DESK_PROVIDER,
-        start,
-        stop,
-        price: terms.bid,
-        offset: terms.offset,
-        length: stop.wrapping_sub(start),
         path: FIRST_PATH,
-        ..NO_ACTION
+        ..Action::default()
     }
 }
 
 // A firm original.
-fn submit_original(customer: u32, terms: Terms) -> Action {
-    submit(customer, ORIGINAL_FIRM, terms)
+fn submit_original(customer: u32, terms: Terms) -> Request {
+    terms.asked_by(submit(customer, ORIGINAL_FIRM))
 }
 
 // A resale by the customer of the related row, preconfirmed.
-fn submit_resale(customer: u32, seller: u32, related: u32, terms: Terms) -> Action {
-    Action {
+fn submit_resale(customer: u32, seller: u32, related: u32, terms: Terms) -> Request {
+    terms.asked_by(Action {
         seller,
         related,
         flags: PRECONFIRMED,
-        ..submit(customer, RESALE, terms)
-    }
+        ..submit(customer, RESALE)
+    })
 }
 
 // A request on the second path, preconfirmed: a non-firm redirect, or a part of one given up.
-fn submit_there(customer: u32, reqtype: u32, related: u32, terms: Terms) -> Action {
-    Action {
+fn submit_there(customer: u32, reqtype: u32, related: u32, terms: Terms) -> Request {
+    terms.asked_by(Action {
         related,
         flags: PRECONFIRMED,
         path: SECOND_PATH,
-        ..submit(customer, reqtype, terms)
-    }
+        ..submit(customer, reqtype)
+    })
 }
 
 // A status for a reference, with a price and no profile.
-fn name_status(kind: Kind, actor: u32, reference: u32, status: u32, price: u32) -> Action {
-    Action {
-        kind: kind.code(),
-        actor,
-        reference,
-        status,
-        price,
-        ..NO_ACTION
+fn name_status(
+    kind: Kind,
+    actor: u32,
+    reference: u32,
+    status: u32,
+    price: u32,
+) -> Request<'static> {
+    Request {
+        action: Action {
+            kind: u32::from(kind),
+            actor,
+            reference,
+            status,
+            price,
+            ..Action::default()
+        },
+        profile: &[],
     }
 }
 
-fn accept(seller: u32, reference: u32, offer: u32) -> Action {
+fn accept(seller: u32, reference: u32, offer: u32) -> Request<'static> {
     name_status(Kind::SellerStatus, seller, reference, ACCEPTED, offer)
 }
 
-fn confirm(customer: u32, reference: u32, bid: u32) -> Action {
+fn confirm(customer: u32, reference: u32, bid: u32) -> Request<'static> {
     name_status(Kind::CustomerStatus, customer, reference, CONFIRMED, bid)
 }
 
-fn displace(seller: u32, reference: u32) -> Action {
+fn displace(seller: u32, reference: u32) -> Request<'static> {
     name_status(Kind::SellerStatus, seller, reference, DISPLACED, 0)
 }
 
-fn annul(seller: u32, reference: u32) -> Action {
+fn annul(seller: u32, reference: u32) -> Request<'static> {
     name_status(Kind::SellerStatus, seller, reference, ANNULLED, 0)
 }
 
-fn day() -> [Action; ACTIONS] {
-    [
-        submit_original(10, Terms::new(0..4, 500, ORIGINAL_AT)),
-        accept(1, 1, 500),
-        confirm(10, 1, 500),
-        submit_resale(20, 10, 1, Terms::new(1..3, 700, RESALE_AT)),
-        accept(10, 2, 700),
-        submit_there(10, NONFIRM_REDIRECT, 1, Terms::new(2..4, 0, REDIRECT_AT)),
-        accept(1, 3, 0),
-        submit_resale(30, 10, 1, Terms::new(2..3, 0, SECOND_RESALE_AT)),
-        accept(10, 4, 0),
-        displace(1, 1),
-        submit_there(10, RELINQUISH, 3, Terms::new(3..4, 0, RELINQUISH_AT)),
-        accept(1, 5, 0),
-        annul(10, 2),
-        annul(1, 3),
-    ]
+// Actions in their order, and the words that a host lends with them: their profiles, one after the other.
+#[derive(Drop)]
+struct Batch {
+    actions: Vec<Action>,
+    words: Vec<u32>,
+}
+
+impl Batch {
+    fn new(alloc: Global, requests: &[Request]) -> io::Result<Batch> {
+        let mut batch = Batch {
+            actions: Vec::new(alloc),
+            words: Vec::new(alloc),
+        };
+        for request in requests {
+            batch.add(*request)?;
+        }
+        Ok(batch)
+    }
+
+    // An action after the others. Its profile starts where the words end so far.
+    fn add(&mut self, request: Request) -> io::Result<()> {
+        let offset = word(self.words.len())?;
+        let length = word(request.profile.len())?;
+        self.words.extend_from_slice(request.profile)?;
+        self.actions.push(Action {
+            offset,
+            length,
+            ..request.action
+        })?;
+        Ok(())
+    }
+}
+
+// A length as a word of an action.
+fn word(length: usize) -> io::Result<u32> {
+    u32::try_from(length).map_err(|_| io::Error::from(io::ErrorKind::InvalidInput))
+}
+
+// What is posted before the day.
+fn posted_before(alloc: Global) -> io::Result<Batch> {
+    Batch::new(alloc, &[post(FIRST_PATH), post(SECOND_PATH)])
+}
+
+fn day(alloc: Global) -> io::Result<Batch> {
+    Batch::new(
+        alloc,
+        &[
+            submit_original(10, Terms::new(0..4, 500, ORIGINAL)),
+            accept(1, 1, 500),
+            confirm(10, 1, 500),
+            submit_resale(20, 10, 1, Terms::new(1..3, 700, FIRST_RESALE)),
+            accept(10, 2, 700),
+            submit_there(10, NONFIRM_REDIRECT, 1, Terms::new(2..4, 0, REDIRECT)),
+            accept(1, 3, 0),
+            submit_resale(30, 10, 1, Terms::new(2..3, 0, SECOND_RESALE)),
+            accept(10, 4, 0),
+            displace(1, 1),
+            submit_there(10, RELINQUISH, 3, Terms::new(3..4, 0, GIVEN_UP)),
+            accept(1, 5, 0),
+            annul(10, 2),
+            annul(1, 3),
+        ],
+    )
 }
 
 // The line of an action: its place in the day, from 1, and the answer.
@@ -207,7 +260,8 @@ impl fmt::Display for Line {
     }
 }
 
-// The words of the ledger and of the postings.
+// The words of the ledger and of the postings. They are arrays and no Vec: the library has no heap and needs none, so a
+// host gives it words that it has, of a size that it knows.
 #[derive(Drop)]
 struct Desk {
     ledger: [u32; LEDGER_WORDS],
@@ -232,19 +286,21 @@ impl Desk {
     }
 }
 
-// Posts a path before the day. It has no line, unless it is refused: then one, as action 0.
-fn post_before(rt: &impl Print, desk: &mut Desk, path: u32) -> io::Result<()> {
-    let answer = desk.act(&POSTED_WORDS, post(path));
-    if answer.number != 0 {
-        rt.println(Line { place: 0, answer })?;
+// Carries out what comes before the day. It has no lines, but one for each refusal, as action 0.
+fn carry_out_before(rt: &impl Print, desk: &mut Desk, batch: &Batch) -> io::Result<()> {
+    for action in &batch.actions {
+        let answer = desk.act(&batch.words, *action);
+        if answer.number != 0 {
+            rt.println(Line { place: 0, answer })?;
+        }
     }
     Ok(())
 }
 
 // Carries each action out, and prints its line.
-fn carry_out(rt: &impl Print, desk: &mut Desk, actions: &[Action]) -> io::Result<()> {
-    for (n, action) in actions.iter().enumerate() {
-        let answer = desk.act(&PROFILE_WORDS, *action);
+fn carry_out(rt: &impl Print, desk: &mut Desk, batch: &Batch) -> io::Result<()> {
+    for (n, action) in batch.actions.iter().enumerate() {
+        let answer = desk.act(&batch.words, *action);
         rt.println(Line {
             place: n + 1,
             answer,
@@ -255,7 +311,6 @@ fn carry_out(rt: &impl Print, desk: &mut Desk, actions: &[Action]) -> io::Result
 
 fn main(rt: HostRuntime) -> io::Result<()> {
     let mut desk = Desk::new();
-    post_before(&rt, &mut desk, FIRST_PATH)?;
-    post_before(&rt, &mut desk, SECOND_PATH)?;
-    carry_out(&rt, &mut desk, &day())
+    carry_out_before(&rt, &mut desk, &posted_before(rt.alloc())?)?;
+    carry_out(&rt, &mut desk, &day(rt.alloc())?)
 }

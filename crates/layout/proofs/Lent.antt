@@ -30,10 +30,6 @@ module _ {l : List ℕ} {R H n a k : ℕ} (s : Sized l R H) (at : RowAt R H n a)
       ap (λ (x : ℕ). take a l ++ (v ++ drop (a + x - a) (drop a l))) words
       ∙ lent_back l a (row_base H n) (row_size H) at.is inside v (f (row H l n)) (kept ∙ ap (λ (x : ℕ). length (take (a + x - a) (drop a l))) words) (e ∙ ap f row_lent)
 
--- a profile's words have room in a row of the ledger
-pub room_as : {l r : List ℕ} {R H n : ℕ} → Sized l R H → n < R → (s : ℕ) (v : List ℕ) → s + length v ≤ H → r ≡ row H l n → Room H s v r
-room_as z lt s v fits e = record { long = ap length e ∙ row_length z lt; fits = fits }
-
 -- a word of row n is stored: by its place in the ledger
 pub stored : {l : List ℕ} {R H n at : ℕ} → Sized l R H → n < R → at ≡ row_base H n → (k v : ℕ) → k < row_words → set l (at + k) v ≡ on_row H n (λ r. set r k v) l
 unfolding on_row

@@ -4,3 +4,4 @@ pub mod Fresh
 pub mod Firm
 pub mod Soundness
 pub mod SoundAt
+pub mod Placed

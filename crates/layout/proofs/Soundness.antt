@@ -40,14 +40,6 @@ spanned H r long most e =
     let w = words_facts H r e in
     record { long = long; hours = most; starts = w.starts; stops = w.stops }
 
--- tests of row n, made on r
-module _ (H : ℕ) (l : List ℕ) (n : ℕ) (r : List ℕ) (is : r ≡ row H l n) where
-  pub row_words : {w : Bool} → w ≡ sound_words H r → w ≡ sound_words H (row H l n)
-  row_words e = e ∙ ap (λ (x : List ℕ). sound_words H x) is
-
-  pub row_profiles : {w : Bool} → w ≡ all_below profiles (λ p. sound_profile H r p) → w ≡ all_below profiles (λ p. sound_profile H (row H l n) p)
-  row_profiles e = e ∙ ap (λ (x : List ℕ). all_below profiles (λ p. sound_profile H x p)) is
-
 -- row n, which is r: an original; related to no earlier row; related to the row above
 module _ (H : ℕ) (l : List ℕ) (n : ℕ) (r : List ℕ) (is : r ≡ row H l n) where
   pub related_none : original (reqtype r) ≡ true → eqb (related r) 0 ≡ sound_related H l n

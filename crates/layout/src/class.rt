@@ -1,13 +1,11 @@
 // Types of requests, and whether a row is firm.
-ghost use Rattle.std.specs.Prelude.{◌≡◌, [], ◌∷◌, ◌<◌};
-ghost use Rattle.rules.specs.Pick.{◌is_from◌to◌, ◌among◌};
-ghost use Rattle.rules.specs.Layout.{Sized};
-ghost use Rattle.rules.specs.Sound.{original, resold, relates as may_relate, firm as is_firm};
+ghost use Rattle.std.specs.Prelude.{◌≡◌, [], ◌∷◌};
+ghost use Rattle.rules.specs.Pick.{◌among◌};
+ghost use Rattle.rules.specs.Sound.{original, transfer, resold, relates as may_relate, firm as is_firm};
 
 use crate::numbers::*;
-use crate::rows::word_at;
-use crate::size::Size;
-use rules::{Reference, RowNumber};
+use crate::row::Row;
+use rules::Reference;
 
 // ORIGINAL, firm and non-firm.
 #[tactic(auto, unfolding(rules::specs::Sound::original))]
@@ -23,6 +21,14 @@ pub fn is_resold(t: u32) -> bool
     ensures { result ≡ resold t }
 {
     t == RESALE || (t == PART_TRANSFER || t == FULL_TRANSFER)
+}
+
+// Types 6 and 7.
+#[tactic(auto, unfolding(rules::specs::Sound::transfer))]
+pub fn is_transfer(t: u32) -> bool
+    ensures { result ≡ transfer t }
+{
+    t == PART_TRANSFER || t == FULL_TRANSFER
 }
 
 // Firm whatever it is related to.
@@ -43,29 +49,19 @@ pub fn relates(t: u32, u: u32) -> bool
     u != NONFIRM_REDIRECT && u != RELINQUISH
 }
 
-// Whether row n may have this related reference: it is that of an earlier row.
-pub fn is_upward(related: u32, n: usize) -> bool
-    ensures { result ≡ (related is_from 1 to n) }
+// Whether a row is firm, up the chain of related rows.
+pub fn firm(row: Row) -> bool
+    ensures { let r = row.entry in result ≡ is_firm r.size.hours r.words.now r.n }
 {
-    1 <= related && related as usize <= n
-}
-
-// Whether row n is firm, up the chain of related rows.
-pub fn firm(l: &[u32], size: Size, n: RowNumber) -> bool
-    requires sized { Sized l.now size.rows size.hours }
-    requires n_lt_rows { n.0 < size.rows }
-    ensures { result ≡ is_firm size.hours l.now n.0 }
-{
-    let t = word_at(l, size, n.0, REQTYPE);
+    let t = row.word(REQTYPE);
     if is_firm_type(t) {
         return true;
     }
     if !is_resold(t) {
         return false;
     }
-    let related = word_at(l, size, n.0, RELATED);
-    if !is_upward(related, n.0) {
-        return false;
+    match Reference(row.word(RELATED)).row(row.n) {
+        None => false,
+        Some(above) => firm(row.at(above.0)),
     }
-    firm(l, size, rules::row_of(Reference(related)))
 }

@@ -13,6 +13,7 @@ use crate::size::Size;
 use rules::Refusal;
 
 // What a ledger is created with: its rows and hours, its provider, the confirmation window in seconds, the base hour.
+// Clauses name the five, as document 01 and the call from C have them.
 #[derive(Clone, Copy, Debug, PartialEq, Eq)]
 pub struct Creation {
     pub rows: u32,
@@ -22,6 +23,7 @@ pub struct Creation {
     pub base: u32,
 }
 
+// Both are tested, so that the tests of a row's words leave no branch: a range's `contains` may stop at the first.
 pub fn is_from(x: u32, least: u32, most: u32) -> bool
     ensures { result ≡ (x is_from least to most) }
 {

@@ -17,7 +17,7 @@ pub enum Profile {
 }
 
 impl Profile {
-    // Which of the five it is, from 0.
+    // Which of the five it is, from 0. No `From`, which could not say that there are five.
     pub fn part(self) -> usize
         ensures value { result ≡ part_of self }
         ensures below { result < profiles }

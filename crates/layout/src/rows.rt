@@ -1,4 +1,5 @@
-// Rows and the hours of their profiles, lent on. Writes and tests in one row, which is lent.
+// Writes in a row, and the flags. What writes takes the words, the size and the row apart and says what it asks of them
+// in clauses, here and in all crates above: a struct that holds a `&mut` has to keep its ghost fact at each write.
 ghost use Rattle.std.specs.Prelude.{◌≡◌, true, ◌+◌, ◌<◌, ◌≤◌, length, get_or, set};
 ghost use Rattle.words.specs.Lists.{covered, equal, roomy, most_word};
 ghost use Rattle.rules.specs.Numbers.{row_words, most_megawatts, most_flags, countered};
@@ -9,25 +10,6 @@ ghost use Rattle.layout.specs.Profiles.{part_of};
 use crate::numbers::MOST_MEGAWATTS;
 use crate::profile::Profile;
 use crate::size::Size;
-
-// Row n.
-pub fn row(l: &[u32], size: Size, n: usize) -> &[u32]
-    requires sized { Sized l.now size.rows size.hours }
-    requires n_lt_rows { n < size.rows }
-    ensures { result.now ≡ row size.hours l.now n }
-{
-    let at = size.row_at(n);
-    &l[at..at + size.row_words()]
-}
-
-// Word k of row n.
-pub fn word_at(l: &[u32], size: Size, n: usize, k: usize) -> u32
-    requires sized { Sized l.now size.rows size.hours }
-    requires n_lt_rows { (n < size.rows) × (k < row_words) }
-    ensures { result ≡ get_or (row size.hours l.now n) k 0 }
-{
-    l[size.row_at(n) + k]
-}
 
 // Word k of row n becomes v.
 pub fn set_word(l: &mut [u32], size: Size, n: usize, k: usize, v: u32)
@@ -56,16 +38,6 @@ pub fn flag_raised(flags: u32, flag: u32) -> u32
         return flags;
     }
     flags + flag
-}
-
-// Hours of profile p, so many from start on.
-pub fn hours(r: &[u32], size: Size, p: Profile, start: usize, count: usize) -> &[u32]
-    requires r_len { length r.now ≡ row_size size.hours }
-    requires fits { start + count ≤ size.hours }
-    ensures { result.now ≡ hours_of size.hours (part_of p) start count r.now }
-{
-    let from = p.hours_at(size, start, count);
-    &r[from..from + count]
 }
 
 // Writes of hours of profile p, from start on: they become v, or 0; v is taken off, or added. One call each: a closure
@@ -104,28 +76,4 @@ pub fn add_hours(r: &mut [u32], size: Size, p: Profile, start: usize, v: &[u32])
 {
     let from = p.hours_at(size, start, v.len());
     words::add(&mut r[from..from + v.len()], v);
-}
-
-// Tests of hours of profile p against v: v is at most them; v is they; together they are at most 100,000. One call
-// each.
-
-pub fn covers_hours(r: &[u32], size: Size, p: Profile, start: usize, v: &[u32]) -> bool
-    requires { Room size.hours start v.now r.now }
-    ensures { result ≡ covered v.now (hours_of size.hours (part_of p) start (length v.now) r.now) }
-{
-    words::all_covered(v, hours(r, size, p, start, v.len()))
-}
-
-pub fn equals_hours(r: &[u32], size: Size, p: Profile, start: usize, v: &[u32]) -> bool
-    requires { Room size.hours start v.now r.now }
-    ensures { result ≡ equal v.now (hours_of size.hours (part_of p) start (length v.now) r.now) }
-{
-    words::all_equal(v, hours(r, size, p, start, v.len()))
-}
-
-pub fn room_hours(r: &[u32], size: Size, p: Profile, start: usize, v: &[u32]) -> bool
-    requires { Room size.hours start v.now r.now }
-    ensures { result ≡ roomy most_megawatts v.now (hours_of size.hours (part_of p) start (length v.now) r.now) }
-{
-    words::all_roomy(MOST_MEGAWATTS, v, hours(r, size, p, start, v.len()))
 }

@@ -29,7 +29,8 @@ impl Size {
         HEAD_WORDS + n * self.row_words()
     }
 
-    // Where row n starts, or a ledger of n rows ends.
+    // Where row n starts, or a ledger of n rows ends: the same place, and another promise. One function for both would
+    // say of a row that it lies in the ledger only if it does, and each caller would have to say so again.
     pub fn end_at(self, n: usize) -> usize
         requires { n ≤ most_rows }
         ensures { EndAt self.hours n result }

@@ -8,13 +8,14 @@ ghost use Rattle.rules.specs.Paths.{sound_postings};
 ghost use Rattle.rules.specs.Act.{sound_both};
 ghost use Rattle.layout.specs.Bounds.{Spanned};
 ghost use Rattle.layout.specs.Profiles.{part_of};
+ghost use Rattle.layout.specs.Rows.{own};
 ghost use Rattle.layout.specs.SoundAt.{SoundAt};
 
-use crate::class::{is_original, is_upward, relates};
+use crate::class::{is_original, relates};
 use crate::create::{Creation, is_entity, is_from, is_long};
 use crate::numbers::*;
 use crate::profile::Profile;
-use crate::rows::{hours, row};
+use crate::row::Row;
 use crate::size::Size;
 use rules::Reference;
 
@@ -37,7 +38,8 @@ fn sound_head(l: &[u32]) -> bool
             & ((l[CLOCK] < END_SECOND) & ((l[USED] <= head.rows) & (l[HEAD_END] == 0))))
 }
 
-// The size of a ledger whose head is sound.
+// The size of a ledger whose head is sound, read off its words: by way of a `Creation` their ranges would have to be
+// shown once more.
 fn head_size(l: &[u32]) -> Size
     requires { sound_head l.now ≡ true }
     ensures rows { result.rows ≡ rows l.now }
@@ -50,16 +52,16 @@ fn head_size(l: &[u32]) -> Size
 }
 
 // The sixteen words of a row.
-fn sound_words(r: &[u32], size: Size) -> bool
-    requires { length r.now ≡ row_size size.hours }
-    ensures { result ≡ sound_words size.hours r.now }
+fn sound_words(row: Row) -> bool
+    ensures { result ≡ sound_words row.entry.size.hours (own row.entry) }
 {
+    let r = row.own();
     is_from(r[REQTYPE], 1, MOST_TYPE)
         & (is_from(r[STATUS], 1, MOST_STATUS)
             & (is_entity(r[CUSTOMER])
                 & (is_entity(r[SELLER])
                     & ((r[START] < r[STOP])
-                        & ((r[STOP] as usize <= size.hours)
+                        & ((r[STOP] as usize <= row.size.hours)
                             & ((r[FLAGS] <= MOST_FLAGS)
                                 & ((r[BID] <= MOST_PRICE)
                                     & ((r[OFFER] <= MOST_PRICE)
@@ -70,45 +72,27 @@ fn sound_words(r: &[u32], size: Size) -> bool
                                                 )))))))))))
 }
 
-// Tests of hours of profile p: they are 0; they are at most 100,000.
-
-fn zero_hours(r: &[u32], size: Size, p: Profile, start: usize, count: usize) -> bool
-    requires r_len { length r.now ≡ row_size size.hours }
-    requires fits { start + count ≤ size.hours }
-    ensures { result ≡ zeros (hours_of size.hours (part_of p) start count r.now) }
-{
-    words::all_zero(hours(r, size, p, start, count))
-}
-
-fn bounded_hours(r: &[u32], size: Size, p: Profile, start: usize, count: usize) -> bool
-    requires r_len { length r.now ≡ row_size size.hours }
-    requires fits { start + count ≤ size.hours }
-    ensures { result ≡ within most_megawatts (hours_of size.hours (part_of p) start count r.now) }
-{
-    words::all_within(MOST_MEGAWATTS, hours(r, size, p, start, count))
-}
-
 // Profile p: 0 before the span, at most 100,000 in it, 0 after it.
-fn sound_profile(r: &[u32], size: Size, p: Profile) -> bool
-    requires { Spanned size.hours r.now }
-    ensures { result ≡ sound_profile size.hours r.now (part_of p) }
+fn sound_profile(row: Row, p: Profile) -> bool
+    requires { Spanned row.size.hours (own row) }
+    ensures { result ≡ sound_profile row.entry.size.hours (own row.entry) (part_of p) }
 {
-    let start = r[START] as usize;
-    let stop = r[STOP] as usize;
-    zero_hours(r, size, p, 0, start)
-        & (bounded_hours(r, size, p, start, stop - start)
-            & zero_hours(r, size, p, stop, size.hours - stop))
+    let start = row.word(START) as usize;
+    let stop = row.word(STOP) as usize;
+    words::all_zero(row.hours(p, 0, start))
+        & (words::all_within(MOST_MEGAWATTS, row.hours(p, start, stop - start))
+            & words::all_zero(row.hours(p, stop, row.size.hours - stop)))
 }
 
-fn sound_profiles(r: &[u32], size: Size) -> bool
-    requires { Spanned size.hours r.now }
-    ensures { result ≡ all_below profiles (λ p. sound_profile size.hours r.now p) }
+fn sound_profiles(row: Row) -> bool
+    requires { Spanned row.size.hours (own row) }
+    ensures { result ≡ all_below profiles (λ p. sound_profile row.entry.size.hours (own row.entry) p) }
 {
-    sound_profile(r, size, Profile::Requested)
-        & sound_profile(r, size, Profile::Granted)
-        & sound_profile(r, size, Profile::Available)
-        & sound_profile(r, size, Profile::Displaced)
-        & sound_profile(r, size, Profile::Reduced)
+    sound_profile(row, Profile::Requested)
+        & sound_profile(row, Profile::Granted)
+        & sound_profile(row, Profile::Available)
+        & sound_profile(row, Profile::Displaced)
+        & sound_profile(row, Profile::Reduced)
 }
 
 // Whether hours from first up to past lie inside the span of row r.
@@ -128,32 +112,25 @@ fn sound_link(r: &[u32], above: &[u32]) -> bool
     relates(r[REQTYPE], above[REQTYPE]) & is_inside(r[START], r[STOP], above)
 }
 
-// Row n, which is r, and the row that it is related to.
-fn sound_related(r: &[u32], l: &[u32], size: Size, n: usize) -> bool
-    requires sized { Sized l.now size.rows size.hours }
-    requires n_lt_rows { n < size.rows }
-    requires r_value { r.now ≡ row size.hours l.now n }
-    ensures { result ≡ sound_related size.hours l.now n }
+// A row, and the row that it is related to.
+fn sound_related(row: Row) -> bool
+    ensures { let r = row.entry in result ≡ sound_related r.size.hours r.words.now r.n }
 {
+    let r = row.own();
     let related = r[RELATED];
     if is_original(r[REQTYPE]) {
         return related == 0;
     }
-    if !is_upward(related, n) {
-        return false;
+    match Reference(related).row(row.n) {
+        None => false,
+        Some(above) => sound_link(r, row.at(above.0).own()),
     }
-    let above = rules::row_of(Reference(related));
-    sound_link(r, row(l, size, above.0))
 }
 
-// Row n, which is r.
-fn sound_row(r: &[u32], l: &[u32], size: Size, n: usize) -> bool
-    requires sized { Sized l.now size.rows size.hours }
-    requires n_lt_rows { n < size.rows }
-    requires r_value { r.now ≡ row size.hours l.now n }
-    ensures { result ≡ sound_row size.hours l.now n }
+fn sound_row(row: Row) -> bool
+    ensures { let r = row.entry in result ≡ sound_row r.size.hours r.words.now r.n }
 {
-    sound_words(r, size) && (sound_profiles(r, size) && sound_related(r, l, size, n))
+    sound_words(row) && (sound_profiles(row) && sound_related(row))
 }
 
 fn sound_rows(l: &[u32], size: Size, used: usize) -> bool
@@ -161,12 +138,13 @@ fn sound_rows(l: &[u32], size: Size, used: usize) -> bool
     requires used_le_rows { used ≤ size.rows }
     ensures { result ≡ all_below used (λ n. sound_row size.hours l.now n) }
 {
-    for n in 0..used {
-        if !sound_row(row(l, size, n), l, size, n) {
-            return false;
-        }
-    }
-    true
+    (0..used).all(
+        |n: usize| -> bool
+            requires sized { Sized l.now size.rows size.hours }
+            requires n_lt_rows { n < size.rows }
+            ensures { result ≡ sound_row size.hours l.entry.now n }
+        { sound_row(Row { words: l, size, n }) },
+    )
 }
 
 // Rows that are not used are 0.

@@ -1,15 +1,17 @@
 -- What every action rests on: the checks by its kind, the last check, an accepted action and its answer.
 use mathlib.Core.Path.{◌≡◌, refl, sym, ap, subst, ◌∙◌}
-use mathlib.Core.Logic.{◌≢◌}
+use mathlib.Core.Logic.{◌≢◌, ◌⊎◌, ⊎_elim}
 use mathlib.Core.Bool.{Bool, true, false, ◌&&◌, ◌||◌, not}
 use mathlib.Core.List.{List}
 use Prim.Native.Nat.{ℕ, ◌+◌, ◌-◌, ◌*◌, ◌≤◌, ◌<◌}
 use native.Mathlib.Nat.{mul-le-mul_right}
 use native.Mathlib.Omega.{arith}
 use lib.Dec.{eqb}
-use lib.ListN.{length, take, drop}
-use borrow.Author.Rules.{rules}
+use lib.ListN.{length}
 use borrow.Author.Tests.{eqb-true, eqb-false, eq-eqb, ne_eqb}
+use Rattle.std.specs.Prelude.{Result, Err}
+use Rattle.std.specs.Result.{IsErrAnd}
+use Rattle.std.proofs.lemmas.Result.{err_from_is_err_and}
 use Rattle.words.specs.Lists.{total}
 use Rattle.words.proofs.Laws.{part_length, total_most}
 use Rattle.rules.specs.Pick.{pick, ◌is_from◌to◌}
@@ -28,6 +30,8 @@ use Rattle.rules.specs.Post.{post_number, posted}
 use Rattle.rules.specs.Moves.{confirmed_or_annulled}
 use Rattle.rules.specs.Act.{by_kind, kind_number, kind_after, postings_after, common_number, sound_both, number, refusal, subject, status_before, moved_between, moved_by, megawatt_hours, acceptance, answered, Outcome, refused, accepted, step}
 use Rattle.rules.specs.Kinds.{kind_code}
+use Rattle.rules.specs.Refusals.{number_of}
+use Rattle.rules.specs.declared.refusal.Refusal.{Refusal}
 use Rattle.rules.specs.declared.kind.Kind.{Kind}
 use Rattle.rules.specs.declared.kind.Kind.TheVariants.{Submit, SellerStatus, CustomerStatus, Approve, Reduce, Lapse, Clock, Post}
 use Rattle.rules.specs.declared.Action.{Action}
@@ -44,14 +48,14 @@ use Rattle.rules.proofs.Soundness.{common_sound, common_passed, kind_passed, kin
 use Rattle.layout.specs.SoundAt.{SoundAt}
 use Rattle.paths.specs.Exceeding.{Postings}
 use Rattle.paths.proofs.Changed.{span_most}
-use Rattle.layout.proofs.SoundAt.{sized_at, head_fits}
-use Rattle.checks.proofs.Profiles.{profile_lent}
-use Rattle.megawatts.proofs.Laws.{own_words, span_length}
-use Rattle.megawatts.proofs.Named.{placed_at}
+use Rattle.layout.proofs.SoundAt.{sized_at}
+use Rattle.layout.proofs.Placed.{own_words, span_length}
+use Rattle.layout.proofs.Placed.{placed_at}
 use Rattle.submission.proofs.Laws.{submit_over}
 use Rattle.provider.specs.Waiting.{Waiting}
 use Rattle.provider.proofs.Laws.{over_approve, over_clock, approve_waiting, lapse_waiting}
 use Rattle.ledger.specs.Moving.{SmallProfile, Passes}
+use Rattle.ledger.specs.declared.known.Known.{Known}
 
 -- ---- the checks that the kind's own function asks for
 module _ (H : ℕ) (l w : List ℕ) (a : Action) where
@@ -147,9 +151,18 @@ module _ (H : ℕ) (l w : List ℕ) (a : Action) where
     unfolding kind_after
     lapse_last e = ap (λ (k : ℕ). carries_over H (after_by k)) (sym e) ∙ z
 
-pub ruleset kinds = (rules, head_fits, submit_none, seller_none, customer_none, approve_none, reduce_none, lapse_none, seller_last, customer_last, reduce_last, lapse_last)
+-- a refusal that `?` passes on
+pub passed_on : {A : Type 0} (r : Result A Refusal) (e : Refusal) {n : ℕ} → IsErrAnd r (λ x. x ≡ e) → number_of {A = A} (Err e) ≡ n → number_of r ≡ n
+passed_on r e i q = let p = err_from_is_err_and r i in rw (p.1, p.2) q
+
+-- by the cases of a sum, which stands first so that they are known
+pub by_either : {A B C : Type 0} → A ⊎ B → (A → C) → (B → C) → C
+by_either x f g = ⊎_elim f g x
 
 -- ---- the number of a kind
+pub coded : (k : Known) {kind : Kind} → k.kind ≡ kind → k.request.action.kind ≡ kind_code kind
+coded k e = sym k.code ∙ ap kind_code e
+
 pub code_in : (kind : Kind) → (kind_code kind is_from 1 to most_kind) ≡ true
 code_in Submit = refl
 code_in SellerStatus = refl
@@ -214,9 +227,6 @@ module _ {r : ℕ} {b : Bool} (l ps : List ℕ) (a : Action) (is : r ≡ common_
   both_sound : sound_both l ps ≡ true
   both_sound = sym e ∙ common_sound b a (sym is ∙ none)
 
-  pub none_sound : SoundAt l (rows l) (hours l)
-  none_sound = (both_at l ps both_sound).0
-
   pub none_posted : Postings (hours l) ps
   none_posted = (both_at l ps both_sound).1
 
@@ -242,9 +252,6 @@ profile_small {w} {a} p =
       total_most most_megawatts (profile w a) p.most,
       mul-le-mul_right {m = length (profile w a)} {n = most_hours} most_megawatts (omega (arith, e, p.counted)),
     )
-
-pub lent_total : {w : List ℕ} {a : Action} {v : ℕ} → SmallProfile w a → v ≡ total (take (a.offset + a.length - a.offset) (drop a.offset w)) → v ≡ total (profile w a)
-lent_total {w} {a} p e = e ∙ ap total (profile_lent w a p.fits)
 
 -- ---- MW-hours moved, by the tests
 module _ (H old new held : ℕ) (next : List ℕ) where
@@ -282,8 +289,6 @@ module _ (H old new held : ℕ) (next : List ℕ) where
       go : (was : Bool) → by was (pick was held 0) ≡ by was held
       go true = refl
       go false = refl
-
-pub ruleset moving = (confirmed_now, not_confirmed, annulled_now, displaced_now, stayed)
 
 -- ---- an action that is accepted
 past : {k j : ℕ} → j ≤ k → k ≢ j → j + 1 ≤ k

@@ -1,25 +1,26 @@
 // The answer of an action. What was is read before the ledger is written, what is, after that.
-ghost use Rattle.std.specs.Prelude.{◌≡◌, ◌≢◌, true, ◌<◌, eqb};
+ghost use Rattle.std.specs.Prelude.{◌≡◌, ◌≢◌, true, eqb};
 ghost use Rattle.words.specs.Lists.{total};
 ghost use Rattle.rules.specs.Pick.{pick};
 ghost use Rattle.rules.specs.Numbers.{CONFIRMED as confirmed};
-ghost use Rattle.rules.specs.Layout.{hours, used, row, span, available};
+ghost use Rattle.rules.specs.Layout.{hours, span, available};
 ghost use Rattle.rules.specs.Checks.{profile};
 ghost use Rattle.rules.specs.Act.{kind_after, postings_after, number, refusal, moved_between, moved_by, answered, sound_both};
-ghost use Rattle.rules.specs.Kinds.{kind_code};
-ghost use Rattle.layout.specs.SoundAt.{SoundAt};
-ghost use Rattle.ledger.specs.Moving.{SmallProfile, Passes};
 ghost use Rattle.layout.specs.Profiles.{part_of};
+ghost use Rattle.layout.specs.Rows.{own_of};
+ghost use Rattle.ledger.specs.Moving.{SmallProfile, Passes};
 
 use crate::applying::apply;
-use checks::checks::{named, profile};
+use crate::known::Known;
+use checks::checks::named;
+use checks::request::Request;
+use layout::entry::Entry;
+use layout::ledger::Ledger;
 use layout::numbers::{ANNULLED, CONFIRMED, DISPLACED, STATUS, USED};
 use layout::profile::Profile;
-use layout::rows::word_at;
 use layout::size::Size;
 use layout::sound::size_of;
-use megawatts::reading::hours_total;
-use rules::{Action, Answer, Kind};
+use rules::{Answer, Kind};
 
 // Five words: a number and four zeros.
 #[tactic(auto, unfolding(rules::specs::Act::refusal))]
@@ -28,32 +29,27 @@ pub fn refused(number: u32) -> Answer
 {
     Answer {
         number,
-        reference: 0,
-        before: 0,
-        after: 0,
-        moved: 0,
+        ..Answer::default()
     }
 }
 
-// MW-hours of the span's hours of profile p of row n: at most 744 times 100,000, which a word holds.
-pub fn span_total(l: &[u32], size: Size, n: usize, p: Profile) -> u32
-    requires sound_at { SoundAt l.now size.rows size.hours }
-    requires n_bound { n < used l.now }
-    ensures { result ≡ total (span size.hours (part_of p) (row size.hours l.now n)) }
+// MW-hours of the span's hours of profile p of a row: at most 744 times 100,000, which a word holds.
+pub fn span_total(entry: Entry, p: Profile) -> u32
+    ensures { let hours = entry.entry.ledger.size.hours in
+        result ≡ total (span hours (part_of p) (own_of entry.entry)) }
 {
-    hours_total(l, size, n, p) as u32
+    entry.reservation().total(p) as u32
 }
 
-// What row n has available before an action, if it is CONFIRMED: no other status has it counted.
-fn held_at(l: &[u32], size: Size, n: usize, status: u32) -> u32
-    requires sound_at { SoundAt l.now size.rows size.hours }
-    requires n_bound { n < used l.now }
-    ensures { result ≡ pick (eqb status confirmed) (total (available size.hours (row size.hours l.now n))) 0 }
+// What a row has available before an action, if it is CONFIRMED: no other status has it counted.
+fn held_at(entry: Entry, status: u32) -> u32
+    ensures { let hours = entry.entry.ledger.size.hours in
+        result ≡ pick (eqb status confirmed) (total (available hours (own_of entry.entry))) 0 }
 {
     if status != CONFIRMED {
         return 0;
     }
-    span_total(l, size, n, Profile::Available)
+    span_total(entry, Profile::Available)
 }
 
 // A row's way from a status to another; held is what was available before.
@@ -64,20 +60,19 @@ struct Passage {
     held: u32,
 }
 
-// MW-hours moved as row n went this way.
-fn moved(l: &[u32], size: Size, n: usize, way: Passage) -> u32
-    requires sound_at { SoundAt l.now size.rows size.hours }
-    requires n_bound { n < used l.now }
-    ensures { result ≡ moved_between size.hours way.old way.new way.held (row size.hours l.now n) }
+// MW-hours moved as the row went this way.
+fn moved(entry: Entry, way: Passage) -> u32
+    ensures { let hours = entry.entry.ledger.size.hours in
+        result ≡ moved_between hours way.old way.new way.held (own_of entry.entry) }
 {
     if way.old != CONFIRMED {
         if way.new == CONFIRMED {
-            return span_total(l, size, n, Profile::Granted);
+            return span_total(entry, Profile::Granted);
         }
         return 0;
     }
     if way.new == ANNULLED {
-        return span_total(l, size, n, Profile::Granted);
+        return span_total(entry, Profile::Granted);
     }
     if way.new == DISPLACED {
         return way.held;
@@ -86,123 +81,136 @@ fn moved(l: &[u32], size: Size, n: usize, way: Passage) -> u32
 }
 
 // MW-hours of the action's profile.
-fn profile_total(words: &[u32], a: Action) -> u32
-    requires { SmallProfile words.now a }
-    ensures { result ≡ total (profile words.now a) }
+fn profile_total(request: Request) -> u32
+    requires { SmallProfile request.words.now request.action }
+    ensures { let asked = request.entry in result ≡ total (profile asked.words.now asked.action) }
 {
-    words::total(profile(words, a)) as u32
+    words::total(request.profile()) as u32
 }
 
-// MW-hours of the accepted action on row n, from the ledger that it left: what was reduced, or moved.
-fn moved_by(
-    kind: Kind,
-    l: &[u32],
-    words: &[u32],
-    size: Size,
-    n: usize,
-    a: Action,
-    way: Passage,
-) -> u32
-    requires code { kind_code kind ≡ a.kind }
-    requires sound_at { SoundAt l.now size.rows size.hours }
-    requires n_bound { n < used l.now }
-    requires small_profile { a.kind ≡ 5 → SmallProfile words.now a }
-    ensures { result ≡ moved_by size.hours words.now a way.old way.new way.held (row size.hours l.now n) }
+// MW-hours of the accepted action on a row, from the ledger that it left: what was reduced, or moved.
+fn moved_by(known: Known, entry: Entry, way: Passage) -> u32
+    requires { known.request.action.kind ≡ 5 → SmallProfile known.request.words.now known.request.action }
+    ensures { let hours = entry.entry.ledger.size.hours in let asked = known.entry.request in
+        result ≡ moved_by hours asked.words.now asked.action way.old way.new way.held (own_of entry.entry) }
 {
-    match kind {
-        Kind::Reduce => profile_total(words, a),
-        _ => moved(l, size, n, way),
+    match known.kind {
+        Kind::Reduce => profile_total(known.request),
+        _ => moved(entry, way),
     }
 }
 
-fn accept_submission(l: &mut [u32], words: &[u32], size: Size, a: Action) -> Answer
-    requires passes { Passes l.old words.now size.rows size.hours a }
-    requires kind_value { a.kind ≡ 1 }
-    ensures answer { result ≡ answered size.hours l.old words.now a (kind_after size.hours l.old words.now a) }
-    ensures ledger { l.new ≡ kind_after size.hours l.old words.now a }
+fn accept_submission(known: Known, l: &mut [u32], size: Size) -> Answer
+    requires passes { Passes l.old known.request.words.now size.rows size.hours known.request.action }
+    requires kind { known.request.action.kind ≡ 1 }
+    ensures answer { let asked = known.entry.request in
+        result ≡ answered size.hours l.old asked.words.now asked.action
+        (kind_after size.hours l.old asked.words.now asked.action) }
+    ensures ledger { let asked = known.entry.request in
+        l.new ≡ kind_after size.hours l.old asked.words.now asked.action }
 {
     let count = l[USED];
-    let n = count as usize;
-    apply(Kind::Submit, l, words, size, a);
-    let status = word_at(&l[..], size, n, STATUS);
+    apply(known, l, size);
+    let entry = Entry {
+        ledger: Ledger {
+            words: &l[..],
+            size,
+        },
+        n: count as usize,
+    };
+    let status = entry.row().word(STATUS);
     let way = Passage {
         old: 0,
         new: status,
         held: 0,
     };
-    let amount = moved(&l[..], size, n, way);
     Answer {
         number: 0,
         reference: count + 1,
         before: 0,
         after: status,
-        moved: amount,
+        moved: moved(entry, way),
     }
 }
 
 // An action on a row that has a reference.
-fn accept_named(kind: Kind, l: &mut [u32], words: &[u32], size: Size, a: Action) -> Answer
-    requires code { kind_code kind ≡ a.kind }
-    requires passes { Passes l.old words.now size.rows size.hours a }
-    requires kind_nonzero { (a.kind ≢ 1) × (a.kind ≢ 7) × (a.kind ≢ 8) }
-    ensures answer { result ≡ answered size.hours l.old words.now a (kind_after size.hours l.old words.now a) }
-    ensures ledger { l.new ≡ kind_after size.hours l.old words.now a }
+fn accept_named(known: Known, l: &mut [u32], size: Size) -> Answer
+    requires passes { Passes l.old known.request.words.now size.rows size.hours known.request.action }
+    requires kind { (known.request.action.kind ≢ 1) × (known.request.action.kind ≢ 7) × (known.request.action.kind ≢ 8) }
+    ensures answer { let asked = known.entry.request in
+        result ≡ answered size.hours l.old asked.words.now asked.action
+        (kind_after size.hours l.old asked.words.now asked.action) }
+    ensures ledger { let asked = known.entry.request in
+        l.new ≡ kind_after size.hours l.old asked.words.now asked.action }
 {
-    let row = named(a);
-    let n = row.0;
-    let before = word_at(&l[..], size, n, STATUS);
-    let held = held_at(&l[..], size, n, before);
-    apply(kind, l, words, size, a);
-    let after = word_at(&l[..], size, n, STATUS);
+    let n = named(known.request.action).0;
+    let was = Entry {
+        ledger: Ledger {
+            words: &l[..],
+            size,
+        },
+        n,
+    };
+    let before = was.row().word(STATUS);
+    let held = held_at(was, before);
+    apply(known, l, size);
+    let is = Entry {
+        ledger: Ledger {
+            words: &l[..],
+            size,
+        },
+        n,
+    };
+    let after = is.row().word(STATUS);
     let way = Passage {
         old: before,
         new: after,
         held,
     };
-    let amount = moved_by(kind, &l[..], words, size, n, a, way);
     Answer {
         number: 0,
-        reference: a.reference,
+        reference: known.request.action.reference,
         before,
         after,
-        moved: amount,
+        moved: moved_by(known, is, way),
     }
 }
 
 // The clock gives five zeros.
-fn accept_clock(l: &mut [u32], words: &[u32], size: Size, a: Action) -> Answer
-    requires passes { Passes l.old words.now size.rows size.hours a }
-    requires kind_value { a.kind ≡ 7 }
-    ensures answer { result ≡ answered size.hours l.old words.now a (kind_after size.hours l.old words.now a) }
-    ensures ledger { l.new ≡ kind_after size.hours l.old words.now a }
+fn accept_clock(known: Known, l: &mut [u32], size: Size) -> Answer
+    requires passes { Passes l.old known.request.words.now size.rows size.hours known.request.action }
+    requires kind { known.request.action.kind ≡ 7 }
+    ensures answer { let asked = known.entry.request in
+        result ≡ answered size.hours l.old asked.words.now asked.action
+        (kind_after size.hours l.old asked.words.now asked.action) }
+    ensures ledger { let asked = known.entry.request in
+        l.new ≡ kind_after size.hours l.old asked.words.now asked.action }
 {
-    apply(Kind::Clock, l, words, size, a);
+    apply(known, l, size);
     refused(0)
 }
 
-// An action that passed every check. A posting gives five zeros too; it alone writes the postings.
-pub(crate) fn accept(
-    kind: Kind,
-    l: &mut [u32],
-    postings: &mut [u32],
-    words: &[u32],
-    a: Action,
-) -> Answer
-    requires code { kind_code kind ≡ a.kind }
-    requires passed { (sound_both l.old postings.old ≡ true) × (number true l.old postings.old words.now a ≡ 0) }
-    ensures answer { result ≡ answered (hours l.old) l.old words.now a (kind_after (hours l.old) l.old words.now a) }
-    ensures ledger { l.new ≡ kind_after (hours l.old) l.old words.now a }
-    ensures postings { postings.new ≡ postings_after (hours l.old) postings.old words.now a }
+// An action that passed every check, by its kind. A posting gives five zeros too; it alone writes the postings.
+pub(crate) fn accept(known: Known, l: &mut [u32], postings: &mut [u32]) -> Answer
+    requires { (sound_both l.old postings.old ≡ true)
+        × (number true l.old postings.old known.request.words.now known.request.action ≡ 0) }
+    ensures answer { let asked = known.entry.request in
+        result ≡ answered (hours l.old) l.old asked.words.now asked.action
+        (kind_after (hours l.old) l.old asked.words.now asked.action) }
+    ensures ledger { let asked = known.entry.request in
+        l.new ≡ kind_after (hours l.old) l.old asked.words.now asked.action }
+    ensures postings { let asked = known.entry.request in
+        postings.new ≡ postings_after (hours l.old) postings.old asked.words.now asked.action }
 {
     let size = size_of(&l[..]);
-    match kind {
-        Kind::Submit => accept_submission(l, words, size, a),
-        Kind::Clock => accept_clock(l, words, size, a),
+    match known.kind {
+        Kind::Submit => accept_submission(known, l, size),
+        Kind::Clock => accept_clock(known, l, size),
         Kind::Post => {
-            provider::post::post(postings, words, size, a);
+            provider::post::post(postings, size, known.request);
             refused(0)
         }
         Kind::SellerStatus | Kind::CustomerStatus | Kind::Approve | Kind::Reduce | Kind::Lapse =>
-            accept_named(kind, l, words, size, a),
+            accept_named(known, l, size),
     }
 }

@@ -64,9 +64,10 @@ pub extern "C" fn luddrisa_batch(
     ensures answers { answers.new ≡ together_answers ledger.old postings.old words.now actions.now answers.old }
 {
     if answers.len() < actions.len() {
-        return Refusal::FewerAnswers.number();
+        return u32::from(Refusal::FewerAnswers);
     }
     let sound = layout::sound::sound_both(ledger, postings);
+    // By place: of a walk by `iter_mut().zip` an invariant would have to say what the iterator has left.
     for (i, action) in actions.iter().enumerate() {
         answers[i] = ledger::step(ledger, postings, words, sound, *action);
     }

@@ -5,14 +5,15 @@ ghost use Rattle.rules.specs.Layout.{Sized, row, on_row, start, span_hours, gran
 ghost use Rattle.rules.specs.Megawatts.{displaced_row, displace as displaces, annulled_row, annul as annuls, reduced_row, reduce as reduces};
 ghost use Rattle.rules.proofs.Over.{over_annulling, over_displacing, over_reducing};
 ghost use Rattle.layout.specs.Bounds.{Spanned};
-ghost use Rattle.megawatts.specs.Placed.{Placed};
+ghost use Rattle.layout.specs.Placed.{Placed};
+ghost use Rattle.layout.specs.Rows.{own};
 
-use crate::giving::{full_at, give_granted};
-use crate::reading::{related_of, span, start_of};
-use layout::class::is_original;
-use layout::numbers::{ANNULLED, DISPLACED, MOST_MEGAWATTS, REQTYPE, START, STATUS, STOP};
+use crate::giving::{full, give_granted};
+use layout::numbers::{ANNULLED, DISPLACED, MOST_MEGAWATTS, START, STATUS, STOP};
 use layout::profile::Profile;
-use layout::rows::{add_hours, clear_hours, less_hours, room_hours, row, word_at};
+use layout::reservation::Reservation;
+use layout::row::Row;
+use layout::rows::{add_hours, clear_hours, less_hours};
 use layout::size::Size;
 
 // Displacing adds all available to displaced and leaves available 0.
@@ -41,15 +42,14 @@ pub fn displace(l: &mut [u32], size: Size, n: usize)
     displace_row(&mut l[at..at + size.row_words()], size);
 }
 
-pub fn over_displacing(l: &[u32], size: Size, n: usize) -> bool
-    requires { Placed l.now size.rows size.hours n }
-    ensures { result ≡ over_displacing size.hours (row size.hours l.now n) }
+#[tactic(auto, unfolding(rules::proofs::Over::over_displacing))]
+pub fn over_displacing(r: Reservation) -> bool
+    ensures { let row = r.entry.row in result ≡ over_displacing row.size.hours (own row) }
 {
-    let available = span(l, size, n, Profile::Available);
     !words::all_roomy(
         MOST_MEGAWATTS,
-        available,
-        span(l, size, n, Profile::Displaced),
+        r.span(Profile::Available),
+        r.span(Profile::Displaced),
     )
 }
 
@@ -76,41 +76,42 @@ fn annul_own(l: &mut [u32], size: Size, n: usize)
     annul_row(&mut l[at..at + size.row_words()], size);
 }
 
+#[tactic(auto, using(layout::proofs::Placed::sized, layout::proofs::Placed::in_rows))]
 pub fn annul(l: &mut [u32], size: Size, n: usize)
     requires placed { Placed l.old size.rows size.hours n }
     requires n_value { over_annulling size.hours l.old n ≡ false }
     ensures { l.new ≡ annuls size.hours n l.old }
 {
-    let reqtype = word_at(&l[..], size, n, REQTYPE);
-    if is_original(reqtype) {
+    let row = Row {
+        words: &l[..],
+        size,
+        n,
+    };
+    let Some(above) = (Reservation { row }).above() else {
         annul_own(l, size, n);
         return;
-    }
-    let above = related_of(&l[..], size, n);
+    };
+    let above = above.row.n;
     give_granted(l, size, n, above);
     annul_own(l, size, n);
 }
 
-pub fn over_annulling(l: &[u32], size: Size, n: usize) -> bool
-    requires { Placed l.now size.rows size.hours n }
-    ensures { result ≡ over_annulling size.hours l.now n }
+#[tactic(auto, unfolding(rules::proofs::Over::over_annulling))]
+pub fn over_annulling(r: Reservation) -> bool
+    ensures { let row = r.entry.row in result ≡ over_annulling row.size.hours row.words.now row.n }
 {
-    let reqtype = word_at(l, size, n, REQTYPE);
-    if is_original(reqtype) {
-        return false;
+    match r.above() {
+        None => false,
+        Some(above) => full(above.row, r.row.start(), r.span(Profile::Granted)),
     }
-    let start = start_of(l, size, n);
-    let above = related_of(l, size, n);
-    full_at(l, size, above, start, span(l, size, n, Profile::Granted))
 }
 
 // Some of what was granted is no longer available.
-pub fn partly_used(l: &[u32], size: Size, n: usize) -> bool
-    requires { Placed l.now size.rows size.hours n }
-    ensures { result ≡ not (equal (available size.hours (row size.hours l.now n)) (granted size.hours (row size.hours l.now n))) }
+pub fn partly_used(r: Reservation) -> bool
+    ensures { let row = r.entry.row in
+        result ≡ not (equal (available row.size.hours (own row)) (granted row.size.hours (own row))) }
 {
-    let available = span(l, size, n, Profile::Available);
-    !words::all_equal(available, span(l, size, n, Profile::Granted))
+    !words::all_equal(r.span(Profile::Available), r.span(Profile::Granted))
 }
 
 // Reducing subtracts a profile from available and adds it to reduced.
@@ -139,19 +140,10 @@ pub fn reduce(l: &mut [u32], size: Size, n: usize, mw: &[u32])
     reduce_row(&mut l[at..at + size.row_words()], size, mw);
 }
 
-fn over_reducing_row(r: &[u32], size: Size, mw: &[u32]) -> bool
-    requires spanned { Spanned size.hours r.now }
-    requires mw_len { length mw.now ≡ span_hours r.now }
-    ensures { result ≡ over_reducing size.hours mw.now r.now }
+#[tactic(auto, unfolding(rules::proofs::Over::over_reducing))]
+pub fn over_reducing(r: Reservation, mw: &[u32]) -> bool
+    requires { length mw.now ≡ span_hours (own r.row) }
+    ensures { let row = r.entry.row in result ≡ over_reducing row.size.hours mw.now (own row) }
 {
-    let start = r[START] as usize;
-    !room_hours(r, size, Profile::Reduced, start, mw)
-}
-
-pub fn over_reducing(l: &[u32], size: Size, n: usize, mw: &[u32]) -> bool
-    requires placed { Placed l.now size.rows size.hours n }
-    requires mw_len { length mw.now ≡ span_hours (row size.hours l.now n) }
-    ensures { result ≡ over_reducing size.hours mw.now (row size.hours l.now n) }
-{
-    over_reducing_row(row(l, size, n), size, mw)
+    !r.row.has_room(Profile::Reduced, r.row.start(), mw)
 }

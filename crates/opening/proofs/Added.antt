@@ -3,31 +3,27 @@ use mathlib.Core.Path.{◌≡◌, sym, ap, subst, ◌∙◌}
 use mathlib.Core.Logic.{◌≢◌}
 use mathlib.Core.Bool.{Bool, true, false, ◌||◌, not}
 use mathlib.Core.List.{List}
-use Prim.Native.Nat.{ℕ, ◌+◌, ◌-◌, ◌≤◌, ◌<◌}
-use native.Mathlib.Nat.{mul-le-mul_right}
+use Prim.Native.Nat.{ℕ, ◌+◌, ◌-◌, ◌*◌, ◌≤◌, ◌<◌}
 use native.Mathlib.Omega.{arith}
 use lib.Dec.{eqb, leb, lit<}
 use lib.ListN.{length, get_or}
 use borrow.Author.Tests.{le-leb}
-use Rattle.words.specs.Lists.{word_at, build, all_below, sum_below, zip2, noughts, equal, roomy, most_word}
-use Rattle.words.proofs.Laws.{and_right, all_cong, all_below_lem, sum_cong, build_length, build_at, zip_length, part_length, part_at, noughts_length, noughts_at}
+use Rattle.words.specs.Lists.{word_at, build, all_below, zip2, noughts, equal, roomy, most_word}
+use Rattle.words.proofs.Laws.{all_cong, all_below_lem, build_length, build_at, zip_length, part_length, part_at, noughts_length, noughts_at}
 use Rattle.rules.specs.Pick.{pick}
 use Rattle.rules.specs.Numbers.{profiles, most_megawatts, granted_part, available_part, displaced_part, reduced_part, NONFIRM_REDIRECT}
-use Rattle.rules.specs.Layout.{used, row, row_size, reqtype, related, hour_at, hours_of}
-use Rattle.rules.specs.Open.{granted_of, held_of, stands, draws_on, in_tree, tree_balances, has_tree, balanced_row, balanced_tree}
+use Rattle.rules.specs.Layout.{used, row, row_size, reqtype, hour_at, hours_of}
+use Rattle.rules.specs.Open.{granted_of, held_of}
 use Rattle.rules.proofs.Rows.{row_length}
 use Rattle.rules.proofs.Seen.{hour_in}
 use Rattle.rules.proofs.SoundFacts.{SoundHours}
-use Rattle.rules.proofs.Types.{original_range}
 use Rattle.layout.specs.SoundAt.{SoundAt}
 use Rattle.layout.proofs.SoundAt.{sized_at}
-use Rattle.paths.specs.Changes.{Adds, Summed}
-use Rattle.paths.proofs.Hourly.{adds_adds}
-use Rattle.opening.specs.Chains.{draw_link, link_of, Chained, Unchained, Falling, chain_sum}
-use Rattle.opening.specs.Shares.{share_of, shares_on, balanced_shares, is_tested, own_share, sum_of, balanced_by, most_share, most_sum, Sums}
-use Rattle.opening.proofs.Chained.{last_falls, chained_as, chain_none, chain_next, chain_most, chain_last}
-use Rattle.opening.proofs.Linked.{relations_at, draws_linked, tree_linked}
-use Rattle.opening.proofs.Shared.{same_equality, rows_by_shares}
+use Rattle.words.specs.Sums.{Adds, Summed}
+use Rattle.words.proofs.Sums.{adds_adds}
+use Rattle.opening.specs.Chains.{Chained, Unchained, Falling, chain_sum}
+use Rattle.opening.specs.Shares.{drawn_share, sum_of, balanced_by, most_share, most_sum, Sums}
+use Rattle.opening.proofs.Chained.{last_falls, chained_as, chain_none, chain_next, chain_last}
 
 -- ---- the hours of a row in use
 module _ {l : List ℕ} {R H : ℕ} (s : SoundAt l R H) where
@@ -84,10 +80,9 @@ module _ {l : List ℕ} {R H : ℕ} (s : SoundAt l R H) where
     unfolding held_of
     held_most = omega (arith, word_most available_part (lit< tt), word_most displaced_part (lit< tt), word_most reduced_part (lit< tt))
 
-    pub share_most : (tree : Bool) → share_of tree H l h n ≤ most_share
-    unfolding share_of granted_of
-    share_most true = held_most
-    share_most false = go (eqb (reqtype (row H l n)) NONFIRM_REDIRECT)
+    pub drawn_most : drawn_share H l h n ≤ most_share
+    unfolding drawn_share granted_of
+    drawn_most = go (eqb (reqtype (row H l n)) NONFIRM_REDIRECT)
       where
         go : (b : Bool) → pick b (held_of H l h n) (word_at (row H l n) (hour_at H granted_part h)) ≤ most_share
         go true = held_most
@@ -112,100 +107,68 @@ pub held_added : (H : ℕ) (l : List ℕ) (n : ℕ) {sums one two next : List �
 unfolding held_of
 held_added H l n a d r = adds_adds (adds_adds a d) r
 
--- ---- the walk of a chain, from reference last on, at reference m
-pub record Walking (H : ℕ) (l : List ℕ) (tree : Bool) (befores sums₀ : List ℕ) (last : ℕ) (sums : List ℕ) (m : ℕ) : Type 0 where
-  pub below : m ≤ used l
+-- ---- the walk of a chain of N rows, at reference m, from reference last on: row c adds f h c
+pub record Walking (N H : ℕ) (f : ℕ → ℕ → ℕ) (befores sums₀ : List ℕ) (last : ℕ) (sums : List ℕ) (m : ℕ) : Type 0 where
+  pub below : m ≤ N
   pub long : length sums ≡ H
-  pub each : (h : ℕ) → h < H → get_or sums h 0 + chain_sum befores (λ c. share_of tree H l h c) m ≡ get_or sums₀ h 0 + chain_sum befores (λ c. share_of tree H l h c) last
+  pub each : (h : ℕ) → h < H → get_or sums h 0 + chain_sum befores (f h) m ≡ get_or sums₀ h 0 + chain_sum befores (f h) last
+  pub most : (h : ℕ) → h < H → get_or sums h 0 + m * most_share ≤ get_or sums₀ h 0 + last * most_share
 
-module _ {H : ℕ} {l : List ℕ} {tree : Bool} {befores sums₀ : List ℕ} {last : ℕ} {sums : List ℕ} {m : ℕ} (i : Walking H l tree befores sums₀ last sums m) where
-  pub walking_turn : Falling (used l) befores → m ≢ 0 → {next : List ℕ} → Adds (λ h. share_of tree H l h (m - 1)) sums next → Walking H l tree befores sums₀ last next (get_or befores (m - 1) 0)
-  walking_turn F ne a =
+module _ {N H : ℕ} {f : ℕ → ℕ → ℕ} {befores sums₀ : List ℕ} {last : ℕ} {sums : List ℕ} {m : ℕ} (i : Walking N H f befores sums₀ last sums m) where
+  pub walking_turn : Falling N befores → m ≢ 0 → {next : List ℕ} → Adds (λ h. f h (m - 1)) sums next → ((h : ℕ) → h < H → f h (m - 1) ≤ most_share) → Walking N H f befores sums₀ last next (get_or befores (m - 1) 0)
+  walking_turn F ne a most =
       let low = F.falls (m - 1) (omega (arith, ne, i.below)) in
       record {
         below = omega (arith, low, ne, i.below);
         long = a.long ∙ i.long;
-        each = λ h lt. omega (arith, i.each h lt, a.each h (omega (arith, lt, i.long)), chain_next F (λ c. share_of tree H l h c) m ne i.below);
+        each = λ h lt. omega (arith, i.each h lt, a.each h (omega (arith, lt, i.long)), chain_next F (f h) m ne i.below);
+        most = λ h lt. omega (arith, i.most h lt, a.each h (omega (arith, lt, i.long)), most h lt, low, ne);
       }
 
-  pub walking_room : {R : ℕ} → SoundAt l R H → Falling (used l) befores → last ≤ used l → Sums H most_share sums₀ → Sums H most_sum sums
-  walking_room s F le o = record {
-    long = i.long;
-    most = λ h lt.
-        omega (
-          arith,
-          i.each h lt,
-          o.most h lt,
-          chain_most F (λ c. share_of tree H l h c) most_share (λ c clt. share_most s clt lt tree) last last (omega arith) le,
-          mul-le-mul_right most_share (let few : last ≤ 1024 = omega (arith, le, few s) in few),
-        );
-  }
+  pub walking_room : N ≤ 1024 → last ≤ N → Sums H most_share sums₀ → Sums H most_sum sums
+  walking_room few le o = record { long = i.long; most = λ h lt. omega (arith, i.most h lt, o.most h lt, few, le) }
 
-  pub walking_done : m ≡ 0 → length sums₀ ≡ H → Adds (λ h. chain_sum befores (λ c. share_of tree H l h c) last) sums₀ sums
+  pub walking_done : m ≡ 0 → length sums₀ ≡ H → Adds (λ h. chain_sum befores (f h) last) sums₀ sums
   walking_done z long = record {
     long = i.long ∙ sym long;
     each = λ h lt.
         let hlt : h < H = omega (arith, lt, long) in
-        omega (arith, i.each h hlt, ap (chain_sum befores (λ c. share_of tree H l h c)) z, chain_none befores (λ c. share_of tree H l h c));
+        omega (arith, i.each h hlt, ap (chain_sum befores (f h)) z, chain_none befores (f h));
   }
 
--- ---- what is held against granted of row n, in a tree or in an equation
-module _ {l : List ℕ} {R H : ℕ} (s : SoundAt l R H) {n : ℕ} (lt : n < used l) where
-  -- at the start: what the row holds, or nothing
-  pub start_own : (tree : Bool) (sums : List ℕ) {one next : List ℕ} → length sums ≡ H → one ≡ noughts (length sums) → Adds (λ h. own_share tree H l h n) one next → Summed H (λ h. own_share tree H l h n) next
-  start_own _ sums long e a =
+-- ---- what is held against granted of row n: its own part, and then the shares of its chain
+module _ {H : ℕ} {f : ℕ → ℕ} (sums : List ℕ) (long : length sums ≡ H) {one next : List ℕ} (e : one ≡ noughts (length sums)) (a : Adds f one next) where
+  pub start_own : Summed H f next
+  start_own =
       let o = sums_none H sums long e in
       record { long = a.long ∙ o.long; each = λ h hlt. omega (arith, o.most h hlt, a.each h (omega (arith, hlt, o.long))) }
 
-  pub start_room : (tree : Bool) {sums : List ℕ} → Summed H (λ h. own_share tree H l h n) sums → Sums H most_share sums
-  unfolding own_share
-  start_room tree o = record { long = o.long; most = λ h hlt. omega (arith, o.each h hlt, least tree h hlt) }
-    where
-      least : (b : Bool) (h : ℕ) → h < H → pick b 0 (held_of H l h n) ≤ most_share
-      least true h hlt = omega arith
-      least false h hlt = held_most s lt hlt
+  pub start_room : ((h : ℕ) → h < H → f h ≤ most_share) → Sums H most_share next
+  start_room most = record { long = start_own.long; most = λ h hlt. omega (arith, start_own.each h hlt, most h hlt) }
 
-  module _ (tree : Bool) {lasts befores : List ℕ} (C : Chained (λ m. link_of tree H l m) (used l) lasts befores) where
-    pub last_in : word_at lasts (n + 1) ≤ used l
-    last_in = omega (arith, C.last (n + 1) (omega (arith, lt)), last_falls (λ m. link_of tree H l m) (n + 1) (used l))
+pub last_in : {N n : ℕ} → n < N → (link : ℕ → ℕ) {lasts befores : List ℕ} → Chained link N lasts befores → word_at lasts (n + 1) ≤ N
+last_in {N} {n} lt link C = omega (arith, C.last (n + 1) (omega (arith, lt)), last_falls link (n + 1) N)
 
-    pub rows_summed : {one two : List ℕ} → Summed H (λ h. own_share tree H l h n) one → Adds (λ h. chain_sum befores (λ c. share_of tree H l h c) (word_at lasts (n + 1))) one two → Summed H (λ h. sum_of tree H l h n) two
-    unfolding sum_of
-    rows_summed o a = record {
-      long = a.long ∙ o.long;
-      each = λ h hlt. omega (arith, o.each h hlt, a.each h (omega (arith, hlt, o.long)), chain_last C (λ c. share_of tree H l h c) (n + 1) (omega (arith, lt)));
-    }
+module _ {l : List ℕ} {H n : ℕ} (lt : n < used l) (link : ℕ → List ℕ → ℕ → ℕ) {lasts befores : List ℕ} (C : Chained (λ m. link H l m) (used l) lasts befores) where
+  pub rows_summed : (own share : ℕ → List ℕ → ℕ → ℕ → ℕ) {one two : List ℕ} → Summed H (λ h. own H l h n) one → Adds (λ h. chain_sum befores (λ c. share H l h c) (word_at lasts (n + 1))) one two → Summed H (λ h. sum_of link own share H l h n) two
+  unfolding sum_of
+  rows_summed own share o a = record {
+    long = a.long ∙ o.long;
+    each = λ h hlt. omega (arith, o.each h hlt, a.each h (omega (arith, hlt, o.long)), chain_last C (λ c. share H l h c) (n + 1) (omega (arith, lt)));
+  }
 
-  -- ---- and what comparing it with granted says
-  row_sum : (h : ℕ) → sum_of false H l h n ≡ held_of H l h n + shares_on H l h n
-  unfolding sum_of own_share link_of shares_on
-  row_sum h =
-      ap (λ (x : ℕ). held_of H l h n + x)
-      (sum_cong (used l) (λ c. pick (eqb (draw_link H l c) (n + 1)) (share_of false H l h c) 0) (λ c. pick (draws_on H l n c) (share_of false H l h c) 0)
-      (λ c clt. ap (λ (x : Bool). pick x (share_of false H l h c) 0) (sym (draws_linked H l n c))))
-
-  tree_sum : related (row H l n) ≡ 0 → (h : ℕ) → sum_of true H l h n ≡ sum_below (used l) (λ m. pick (in_tree H l n m) (held_of H l h m) 0)
-  unfolding sum_of own_share link_of share_of
-  tree_sum top h = omega (arith, tree_linked (relations_at s) n top (λ m. held_of H l h m))
-
-  pub told : (tree : Bool) {b c : Bool} {sums : List ℕ} → b ≡ is_tested tree H l n → b ≡ true → Summed H (λ h. sum_of tree H l h n) sums → c ≡ all_below H (λ h. eqb (word_at sums h) (word_at (row H l n) (hour_at H granted_part h))) → c ≡ balanced_by tree H l n
-  unfolding is_tested balanced_by balanced_shares balanced_tree has_tree tree_balances granted_of
-  told false e t o q =
+-- ---- and what comparing it with granted says
+module _ (is_tested : ℕ → List ℕ → ℕ → Bool) (link : ℕ → List ℕ → ℕ → ℕ) (own share : ℕ → List ℕ → ℕ → ℕ → ℕ) {l : List ℕ} {H n : ℕ} {b : Bool} (t : b ≡ is_tested H l n) where
+  pub told : b ≡ true → {c : Bool} {sums : List ℕ} → Summed H (λ h. sum_of link own share H l h n) sums → c ≡ all_below H (λ h. eqb (word_at sums h) (word_at (row H l n) (hour_at H granted_part h))) → c ≡ balanced_by is_tested link own share H l n
+  unfolding balanced_by granted_of
+  told e o q =
       q
-      ∙ all_cong _ _ H (λ h hlt. ap (λ (x : ℕ). eqb x (word_at (row H l n) (hour_at H granted_part h))) (o.each h hlt ∙ row_sum h))
-      ∙ ap (λ (x : Bool). not x || all_below H (λ h. eqb (held_of H l h n + shares_on H l h n) (word_at (row H l n) (hour_at H granted_part h)))) (sym t ∙ e)
-  told true e t o q =
-      let top = (relations_at s n lt).originals (original_range _ (and_right (stands H l n) _ (sym e ∙ t))).1 in
-      q
-      ∙ all_cong _ _ H (λ h hlt.
-      ap (λ (x : ℕ). eqb x (word_at (row H l n) (hour_at H granted_part h))) (o.each h hlt ∙ tree_sum top h)
-      ∙ same_equality (sum_below (used l) (λ m. pick (in_tree H l n m) (held_of H l h m) 0)) (word_at (row H l n) (hour_at H granted_part h)) (word_at (row H l n) (hour_at H granted_part h)) (sum_below (used l) (λ m. pick (in_tree H l n m) (held_of H l h m) 0)) (λ z. sym z) (λ z. sym z))
-      ∙ ap (λ (x : Bool). not x || all_below H (λ h. tree_balances H l n h)) (sym t ∙ e)
+      ∙ all_cong _ _ H (λ h hlt. ap (λ (x : ℕ). eqb x (word_at (row H l n) (hour_at H granted_part h))) (o.each h hlt))
+      ∙ ap (λ (x : Bool). not x || all_below H (λ h. eqb (sum_of link own share H l h n) (word_at (row H l n) (hour_at H granted_part h)))) (sym e ∙ t)
 
-  pub untold : (tree : Bool) {b : Bool} → b ≡ is_tested tree H l n → b ≡ false → true ≡ balanced_by tree H l n
-  unfolding is_tested balanced_by balanced_shares balanced_tree
-  untold false e f = ap (λ (x : Bool). not x || all_below H (λ h. eqb (held_of H l h n + shares_on H l h n) (granted_of H l h n))) (sym f ∙ e)
-  untold true e f = ap (λ (x : Bool). not x || all_below H (λ h. tree_balances H l n h)) (sym f ∙ e)
+  pub untold : b ≡ false → true ≡ balanced_by is_tested link own share H l n
+  unfolding balanced_by
+  untold e = ap (λ (x : Bool). not x || all_below H (λ h. eqb (sum_of link own share H l h n) (granted_of H l h n))) (sym e ∙ t)
 
 -- ---- links that fill a table
 module _ {l : List ℕ} {R H : ℕ} (s : SoundAt l R H) (link : ℕ → ℕ) {links : List ℕ} (filled : links ≡ build (used l) link) where
@@ -226,12 +189,3 @@ module _ {l : List ℕ} {R H : ℕ} (s : SoundAt l R H) (link : ℕ → ℕ) {li
       let e : length links ≡ used l = ap length filled ∙ build_length (used l) link in
       chained_as (λ n lt. ap (λ (x : List ℕ). word_at x n) filled ∙ build_at (used l) link n lt)
       (subst (λ (k : ℕ). Chained (λ n. word_at links n) k lasts befores) e c)
-
--- the equations by shares are the equations; the trees are the trees
-pub rows_told : {l : List ℕ} {R H : ℕ} → SoundAt l R H → {c : Bool} → c ≡ all_below (used l) (λ n. balanced_by false H l n) → c ≡ all_below (used l) (λ n. balanced_row H l n)
-unfolding balanced_by
-rows_told s q = q ∙ sym (rows_by_shares (relations_at s))
-
-pub trees_told : (H : ℕ) (l : List ℕ) {c : Bool} → c ≡ all_below (used l) (λ n. balanced_by true H l n) → c ≡ all_below (used l) (λ n. balanced_tree H l n)
-unfolding balanced_by
-trees_told H l q = q

@@ -3,9 +3,9 @@ use mathlib.Core.Path.{◌≡◌, refl, sym, ap, ◌∙◌}
 use mathlib.Core.Logic.{◌≢◌, ◌⊎◌, ⊎_elim}
 use mathlib.Core.Bool.{Bool, true, false}
 use mathlib.Core.List.{List}
-use Prim.Native.Nat.{ℕ, zero, suc, ◌+◌, ◌-◌, ◌*◌, ◌≤◌, ◌<◌, zero-le}
+use Prim.Native.Nat.{ℕ, zero, suc, ◌+◌, ◌-◌, ◌≤◌, ◌<◌, zero-le}
 use native.Mathlib.Decide.{ℕ_discrete}
-use native.Mathlib.Nat.{suc-mul, mul-le-mul_right, eq-or-lt_of_le}
+use native.Mathlib.Nat.{eq-or-lt_of_le}
 use native.Mathlib.Numerals.{add-one}
 use native.Mathlib.Omega.{arith}
 use lib.Dec.{eqb}
@@ -75,25 +75,6 @@ module _ {N : ℕ} {befores : List ℕ} (F : Falling N befores) (f : ℕ → ℕ
       let q : word_at befores (suc p - 1) ≤ p = omega (arith, low, ap (λ (i : ℕ). word_at befores i) e) in
       ap (λ (t : Bool). pick t 0 (f (suc p - 1) + chain_within p befores f (word_at befores (suc p - 1)))) (ne_eqb (suc p) 0 ne)
       ∙ ap (λ (x : ℕ). f (suc p - 1) + x) (steps p (word_at befores (suc p - 1)) (word_at befores (suc p - 1)) q (omega arith) (omega (arith, q, le)))
-
-  pub chain_most : (b : ℕ) → ((n : ℕ) → n < N → f n ≤ b) → (k m : ℕ) → m ≤ k → m ≤ N → chain_sum befores f m ≤ m * b
-  chain_most b most zero m a c = let z : m ≡ 0 = omega (arith, a) in omega (arith, ap (chain_sum befores f) z, chain_none befores f)
-  chain_most b most (suc k) m a c = go (ℕ_discrete m 0) (λ w u v. chain_most b most k w u v)
-    where
-      go : Dec (m ≡ 0) → ((w : ℕ) → w ≤ k → w ≤ N → chain_sum befores f w ≤ w * b) → chain_sum befores f m ≤ m * b
-      go (yes z) rest = omega (arith, ap (chain_sum befores f) z, chain_none befores f)
-      go (no ne) rest =
-          let low : word_at befores (m - 1) ≤ m - 1 = F.falls (m - 1) (omega (arith, ne, c)) in
-          let one : suc (m - 1) ≡ m = omega (arith, ne) in
-          omega (
-            arith,
-            chain_next m ne c,
-            rest (word_at befores (m - 1)) (omega (arith, low, ne, a)) (omega (arith, low, ne, c)),
-            most (m - 1) (omega (arith, ne, c)),
-            mul-le-mul_right b low,
-            suc-mul (m - 1) b,
-            ap (λ (x : ℕ). x * b) one,
-          )
 
 -- the rows of a link's chain are the rows with that link
 module _ {link : ℕ → ℕ} {N : ℕ} {lasts befores : List ℕ} (C : Chained link N lasts befores) (f : ℕ → ℕ) where
@@ -170,13 +151,3 @@ module _ {links lasts befores : List ℕ} {m : ℕ} (i : Chaining links lasts be
           ∙ ve ∙ i.last (word_at links m) low
           ∙ ap (λ (j : ℕ). last_linked (λ n. word_at links n) (word_at links j) j) (sym e))
           (λ l. get_or-set_other befores m n v 0 (λ q. omega (arith, q, l)) ∙ i.before n l)
-
-  pub chaining_done : length links ≤ m → Chained (λ n. word_at links n) (length links) lasts befores
-  chaining_done past =
-      let e : m ≡ length links = omega (arith, past, i.below) in
-      record {
-        lasts_long = i.lasts_long;
-        befores_long = i.befores_long;
-        last = λ k le. i.last k le ∙ ap (λ (j : ℕ). last_linked (λ n. word_at links n) k j) e;
-        before = λ n lt. i.before n (omega (arith, lt, e));
-      }

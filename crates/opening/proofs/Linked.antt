@@ -16,7 +16,7 @@ use Rattle.rules.specs.Balance.{descends_within, descends}
 use Rattle.rules.specs.Open.{stands, draws_on, in_tree}
 use Rattle.rules.proofs.SoundFacts.{SoundRelation}
 use Rattle.layout.specs.SoundAt.{SoundAt}
-use Rattle.opening.specs.Chains.{draw_link, root_within, root_link, link_of}
+use Rattle.opening.specs.Chains.{draw_link, root_within, root_link}
 
 pub relations_at : {l : List ℕ} {R H : ℕ} → SoundAt l R H → (n : ℕ) → n < used l → SoundRelation H l n
 relations_at {l} s n lt = subst (λ (x : ℕ). SoundRelation x l n) (sym s.hours) (s.sound.relations n lt)
@@ -97,11 +97,6 @@ module _ {H : ℕ} {l : List ℕ} (rel : (n : ℕ) → n < used l → SoundRelat
   unfolding root_link
   root_low n lt = within_low n n lt
 
-  pub link_low : (tree : Bool) (n : ℕ) → n < used l → link_of tree H l n ≤ n + 1
-  unfolding link_of
-  link_low true n lt = root_low n lt
-  link_low false n lt = omega (arith, draw_low n lt)
-
   -- ---- a row is in the tree of one that is related to none exactly where that is its root
   module _ (o : ℕ) (top : related (row H l o) ≡ 0) where
     up : ℕ → ℕ
@@ -138,3 +133,11 @@ module _ {H : ℕ} {l : List ℕ} (rel : (n : ℕ) → n < used l → SoundRelat
     pub tree_linked : (f : ℕ → ℕ) → sum_below (used l) (λ n. pick (in_tree H l o n) (f n) 0) ≡ sum_below (used l) (λ n. pick (eqb (root_link H l n) (o + 1)) (f n) 0)
     unfolding in_tree descends root_link up
     tree_linked f = sum_cong (used l) _ _ (λ n lt. ap (λ (b : Bool). pick b (f n) 0) (tree_steps n (suc (n + 1)) n (omega arith) (omega arith) lt))
+
+-- a row counts for itself, for one before it, or for none
+module _ {l : List ℕ} {R H : ℕ} (s : SoundAt l R H) (n : ℕ) (lt : n < used l) where
+  pub draws_low : draw_link H l n ≤ n + 1
+  draws_low = omega (arith, draw_low (relations_at s) n lt)
+
+  pub roots_low : root_link H l n ≤ n + 1
+  roots_low = root_low (relations_at s) n lt

@@ -9,7 +9,7 @@ use native.Mathlib.Decide.{ℕ_discrete}
 use native.Mathlib.Omega.{arith}
 use lib.Dec.{eqb}
 use borrow.Author.Tests.{eq-eqb, ne_eqb, eqb-true}
-use Rattle.words.specs.Lists.{all_below}
+use Rattle.words.specs.Lists.{all_below, sum_below}
 use Rattle.words.proofs.Laws.{lt_or_le, and_left, and_right, all_at, all_cong, sum_cong, sum_nothing, sum_add}
 use Rattle.rules.specs.Pick.{pick}
 use Rattle.rules.specs.Numbers.{NONFIRM_REDIRECT, RELINQUISH}
@@ -17,7 +17,14 @@ use Rattle.rules.specs.Layout.{used, row, reqtype, related, related_row}
 use Rattle.rules.specs.Sound.{redirect}
 use Rattle.rules.specs.Open.{granted_of, held_of, stands, draws_on, redirect_on, relinquish_on, drawn, relinquished, taken_off, row_balances, has_equation, balanced_row}
 use Rattle.rules.proofs.SoundFacts.{SoundRelation}
-use Rattle.opening.specs.Shares.{share_of, shares_on, balanced_shares}
+use Rattle.opening.specs.Shares.{drawn_share}
+
+-- the shares of the rows that draw on row n, and the equation of row n by these
+unfoldable pub shares_on : ℕ → List ℕ → ℕ → ℕ → ℕ
+shares_on H l h n = sum_below (used l) (λ c. pick (draws_on H l n c) (drawn_share H l h c) 0)
+
+unfoldable pub balanced_shares : ℕ → List ℕ → ℕ → Bool
+balanced_shares H l n = not (has_equation H l n) || all_below H (λ h. eqb (held_of H l h n + shares_on H l h n) (granted_of H l h n))
 
 -- ---- tests
 same_test : (b c : Bool) → (b ≡ true → c ≡ true) → (c ≡ true → b ≡ true) → b ≡ c
@@ -92,7 +99,7 @@ module _ {H : ℕ} {l : List ℕ} (rel : (n : ℕ) → n < used l → SoundRelat
         go e lt false t = refl
 
     five_shares : (c : ℕ) → reqtype (row H l c) ≡ NONFIRM_REDIRECT → shares_on H l h c ≡ drawn H l h c
-    unfolding shares_on drawn share_of
+    unfolding shares_on drawn drawn_share
     five_shares c five = sum_cong (used l) _ _ (λ e lt. go e lt (draws_on H l c e) refl)
       where
         go : (e : ℕ) → e < used l → (b : Bool) → draws_on H l c e ≡ b → pick b (pick (eqb (reqtype (row H l e)) NONFIRM_REDIRECT) (held_of H l h e) (granted_of H l h e)) 0 ≡ pick b (granted_of H l h e) 0
@@ -102,7 +109,7 @@ module _ {H : ℕ} {l : List ℕ} (rel : (n : ℕ) → n < used l → SoundRelat
     -- ---- where each type 5 at 13 or 15 balances in the hour, so does a row by shares exactly if it does
     module _ (fives : (c : ℕ) → c < used l → stands H l c ≡ true → reqtype (row H l c) ≡ NONFIRM_REDIRECT → granted_of H l h c ≡ held_of H l h c + drawn H l h c) where
       drawn_split : (n : ℕ) → drawn H l h n ≡ shares_on H l h n + taken_off H l h n
-      unfolding drawn shares_on taken_off redirect_on share_of redirect
+      unfolding drawn shares_on taken_off redirect_on drawn_share redirect
       drawn_split n =
           sum_cong (used l) _ _ (λ c lt. go c lt (draws_on H l n c) refl (ℕ_discrete (reqtype (row H l c)) NONFIRM_REDIRECT))
           ∙ sum_add (used l) (λ c. pick (draws_on H l n c) (pick (eqb (reqtype (row H l c)) NONFIRM_REDIRECT) (held_of H l h c) (granted_of H l h c)) 0) (λ c. pick (draws_on H l n c && (eqb (reqtype (row H l c)) 4 || (eqb (reqtype (row H l c)) 5 || false))) (relinquished H l h c) 0)

@@ -1,6 +1,6 @@
 -- For contracts inside the crate: the rows that count for one row, chained from the last to the first. No promise to
 -- the outside names these.
-use Rattle.std.specs.Prelude.{◌≡◌, Bool, List, ℕ, zero, suc, ◌+◌, ◌-◌, ◌≤◌, ◌<◌, eqb, length}
+use Rattle.std.specs.Prelude.{◌≡◌, List, ℕ, zero, suc, ◌+◌, ◌-◌, ◌≤◌, ◌<◌, eqb, length}
 use Rattle.words.specs.Lists.{word_at}
 use Rattle.rules.specs.Pick.{pick}
 use Rattle.rules.specs.Numbers.{most_rows}
@@ -18,10 +18,6 @@ root_within (suc k) H l n = pick (eqb (related (row H l n)) 0) (n + 1) (root_wit
 
 unfoldable pub root_link : ℕ → List ℕ → ℕ → ℕ
 root_link H l n = root_within n H l n
-
--- the one or the other: whether the rows of a tree are chained, or those that draw on the same row
-unfoldable pub link_of : Bool → ℕ → List ℕ → ℕ → ℕ
-link_of tree H l n = pick tree (root_link H l n) (draw_link H l n)
 
 -- of the rows before m the last one with the link k, as a reference
 unfoldable pub last_linked : (ℕ → ℕ) → ℕ → ℕ → ℕ

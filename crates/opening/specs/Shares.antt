@@ -1,42 +1,29 @@
--- For contracts inside the crate: what a row adds to a sum by hour, and a row's equation by such shares. No promise to
--- the outside names these.
-use Rattle.std.specs.Prelude.{◌≡◌, Bool, false, ◌||◌, not, List, ℕ, ◌+◌, ◌*◌, ◌≤◌, ◌<◌, eqb, length, get_or}
+-- For contracts inside the crate: what a row adds to a sum by hour, and a row's test by such shares. No promise to the
+-- outside names these.
+use Rattle.std.specs.Prelude.{◌≡◌, Bool, ◌||◌, not, List, ℕ, ◌+◌, ◌*◌, ◌≤◌, ◌<◌, eqb, length, get_or}
 use Rattle.words.specs.Lists.{all_below, sum_below}
 use Rattle.rules.specs.Pick.{pick}
 use Rattle.rules.specs.Numbers.{most_rows, most_megawatts, NONFIRM_REDIRECT}
 use Rattle.rules.specs.Layout.{used, row, reqtype}
-use Rattle.rules.specs.Open.{granted_of, held_of, draws_on, has_equation, has_tree, balanced_tree}
-use Rattle.opening.specs.Chains.{link_of}
+use Rattle.rules.specs.Open.{granted_of, held_of}
 
--- what row n adds to a tree: what it holds; to the equation of a row that it draws on: its granted, but of a type 5
--- what it holds, which is its granted less that of its relinquish records where the type 5 balances
-unfoldable pub share_of : Bool → ℕ → List ℕ → ℕ → ℕ → ℕ
-share_of tree H l h n =
-    pick tree (held_of H l h n) (
-    pick (eqb (reqtype (row H l n)) NONFIRM_REDIRECT) (held_of H l h n)
-    (granted_of H l h n))
+-- what row n adds to the equation of a row that it draws on: its granted, but of a type 5 what it holds, which is its
+-- granted less that of its relinquish records where the type 5 balances
+unfoldable pub drawn_share : ℕ → List ℕ → ℕ → ℕ → ℕ
+drawn_share H l h n = pick (eqb (reqtype (row H l n)) NONFIRM_REDIRECT) (held_of H l h n) (granted_of H l h n)
 
--- the shares of the rows that draw on row n, and the equation of row n by these
-unfoldable pub shares_on : ℕ → List ℕ → ℕ → ℕ → ℕ
-shares_on H l h n = sum_below (used l) (λ c. pick (draws_on H l n c) (share_of false H l h c) 0)
+-- a row's own part in a tree: it stands in the tree's chain
+abbrev pub nothing_of : ℕ → List ℕ → ℕ → ℕ → ℕ
+nothing_of H l h n = 0
 
-unfoldable pub balanced_shares : ℕ → List ℕ → ℕ → Bool
-balanced_shares H l n = not (has_equation H l n) || all_below H (λ h. eqb (held_of H l h n + shares_on H l h n) (granted_of H l h n))
+-- what is held against granted of row n: its own part, and the shares of the rows that count for it; it balances if it
+-- is not tested, or they are its granted in every hour
+unfoldable pub sum_of : (ℕ → List ℕ → ℕ → ℕ) → (own share : ℕ → List ℕ → ℕ → ℕ → ℕ) → ℕ → List ℕ → ℕ → ℕ → ℕ
+sum_of link own share H l h n = own H l h n + sum_below (used l) (λ c. pick (eqb (link H l c) (n + 1)) (share H l h c) 0)
 
--- of a tree, or of an equation: whether row n has one; what is held against granted of row n, of which its own part
--- stands in the tree's chain; whether that holds in every hour
-unfoldable pub is_tested : Bool → ℕ → List ℕ → ℕ → Bool
-is_tested tree H l n = pick tree (has_tree H l n) (has_equation H l n)
-
-unfoldable pub own_share : Bool → ℕ → List ℕ → ℕ → ℕ → ℕ
-own_share tree H l h n = pick tree 0 (held_of H l h n)
-
-unfoldable pub sum_of : Bool → ℕ → List ℕ → ℕ → ℕ → ℕ
-sum_of tree H l h n =
-    own_share tree H l h n + sum_below (used l) (λ c. pick (eqb (link_of tree H l c) (n + 1)) (share_of tree H l h c) 0)
-
-unfoldable pub balanced_by : Bool → ℕ → List ℕ → ℕ → Bool
-balanced_by tree H l n = pick tree (balanced_tree H l n) (balanced_shares H l n)
+unfoldable pub balanced_by : (ℕ → List ℕ → ℕ → Bool) → (ℕ → List ℕ → ℕ → ℕ) → (own share : ℕ → List ℕ → ℕ → ℕ → ℕ) → ℕ → List ℕ → ℕ → Bool
+balanced_by is_tested link own share H l n =
+    not (is_tested H l n) || all_below H (λ h. eqb (sum_of link own share H l h n) (granted_of H l h n))
 
 -- the greatest share; the greatest sum, of a row and all rows
 abbrev pub most_share : ℕ

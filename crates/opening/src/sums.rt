@@ -1,46 +1,43 @@
-// Sums by hour on a lent slice. Three functions alone read rows: `layout::rows::word_at`, `add_hours`, `equals_hours`.
-ghost use Rattle.std.specs.Prelude.{◌≡◌, ◌+◌, ◌<◌, ◌≤◌, eqb, length};
+// Sums by hour on a lent slice.
+ghost use Rattle.std.specs.Prelude.{◌≡◌, ◌+◌, eqb, length};
 ghost use Rattle.words.specs.Lists.{word_at, all_below};
-ghost use Rattle.rules.specs.Numbers.{profiles};
-ghost use Rattle.rules.specs.Layout.{used as used_rows, row, hour_at};
+ghost use Rattle.words.specs.Sums.{Adds};
+ghost use Rattle.rules.specs.Layout.{hour_at};
 ghost use Rattle.rules.specs.Open.{held_of};
-ghost use Rattle.layout.specs.SoundAt.{SoundAt};
-ghost use Rattle.paths.specs.Changes.{Adds};
-ghost use Rattle.opening.specs.Shares.{most_share, most_sum, Sums};
 ghost use Rattle.layout.specs.Profiles.{part_of};
+ghost use Rattle.layout.specs.Rows.{own_of};
+ghost use Rattle.opening.specs.Shares.{most_share, most_sum, Sums};
 
+use layout::entry::Entry;
 use layout::profile::Profile;
-use layout::rows::{hours, row};
-use layout::size::Size;
 
-// Profile p of row n is added.
-pub fn add_hours(sums: &mut [u32], l: &[u32], size: Size, n: usize, p: Profile)
-    requires sound_at { SoundAt l.now size.rows size.hours }
-    requires n_bound { n < used_rows l.now }
-    requires sums { Sums size.hours (most_sum + most_share) sums.old }
-    ensures { Adds (λ h. word_at (row size.hours l.now n) (hour_at size.hours (part_of p) h)) sums.old sums.new }
+// Its profile p is added.
+pub fn add_profile(sums: &mut [u32], entry: Entry, p: Profile)
+    requires { Sums entry.ledger.size.hours (most_sum + most_share) sums.old }
+    ensures { let hours = entry.entry.ledger.size.hours in
+        let own = own_of entry.entry in
+        Adds (λ h. word_at own (hour_at hours (part_of p) h)) sums.old sums.new }
 {
-    words::add(sums, hours(row(l, size, n), size, p, 0, size.hours));
+    words::add(sums, entry.row().hours(p, 0, entry.ledger.size.hours));
 }
 
-// Whether the sums are profile p of row n.
-pub fn equals_hours(sums: &[u32], l: &[u32], size: Size, n: usize, p: Profile) -> bool
-    requires sound_at { SoundAt l.now size.rows size.hours }
-    requires n_bound { n < used_rows l.now }
-    requires sums_len { length sums.now ≡ size.hours }
-    ensures { result ≡ all_below size.hours (λ h. eqb (word_at sums.now h) (word_at (row size.hours l.now n) (hour_at size.hours (part_of p) h))) }
+// Whether the sums are its profile p.
+pub fn is_profile(sums: &[u32], entry: Entry, p: Profile) -> bool
+    requires { length sums.now ≡ entry.ledger.size.hours }
+    ensures { let hours = entry.entry.ledger.size.hours in
+        let own = own_of entry.entry in
+        result ≡ all_below hours (λ h. eqb (word_at sums.now h) (word_at own (hour_at hours (part_of p) h))) }
 {
-    layout::rows::equals_hours(row(l, size, n), size, p, 0, sums)
+    entry.row().equals(p, 0, sums)
 }
 
-// What row n holds is added: available, displaced and reduced.
-pub fn add_held(sums: &mut [u32], l: &[u32], size: Size, n: usize)
-    requires sound_at { SoundAt l.now size.rows size.hours }
-    requires n_bound { n < used_rows l.now }
-    requires sums { Sums size.hours most_sum sums.old }
-    ensures { Adds (λ h. held_of size.hours l.now h n) sums.old sums.new }
+// What it holds is added: available, displaced and reduced.
+pub fn add_held(sums: &mut [u32], entry: Entry)
+    requires { Sums entry.ledger.size.hours most_sum sums.old }
+    ensures { let e = entry.entry in
+        Adds (λ h. held_of e.ledger.size.hours e.ledger.words.now h e.n) sums.old sums.new }
 {
-    add_hours(sums, l, size, n, Profile::Available);
-    add_hours(sums, l, size, n, Profile::Displaced);
-    add_hours(sums, l, size, n, Profile::Reduced);
+    add_profile(sums, entry, Profile::Available);
+    add_profile(sums, entry, Profile::Displaced);
+    add_profile(sums, entry, Profile::Reduced);
 }

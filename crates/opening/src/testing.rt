@@ -1,78 +1,100 @@
 // What is tested of the rows of a ledger: their equations, and their trees.
-ghost use Rattle.std.specs.Prelude.{◌≡◌, Bool, true, false, ◌<◌, length};
+ghost use Rattle.std.specs.Prelude.{◌≡◌, Bool, List, ℕ, ◌+◌, ◌<◌, ◌≤◌, length};
 ghost use Rattle.words.specs.Lists.{build};
-ghost use Rattle.rules.specs.Layout.{Sized, used as used_rows};
-ghost use Rattle.layout.specs.SoundAt.{SoundAt};
-ghost use Rattle.paths.specs.Changes.{Adds};
-ghost use Rattle.opening.specs.Chains.{link_of};
-ghost use Rattle.opening.specs.Shares.{is_tested, own_share, share_of, most_sum, Sums};
+ghost use Rattle.words.specs.Sums.{Adds};
+ghost use Rattle.rules.specs.Layout.{used as used_rows};
+ghost use Rattle.rules.specs.Open.{held_of, has_equation, has_tree};
+ghost use Rattle.opening.specs.Chains.{draw_link, root_link};
+ghost use Rattle.opening.specs.Shares.{nothing_of, drawn_share, most_share, most_sum, Sums};
 
 use crate::links::{link_draws, link_roots, stands};
-use crate::sums::{add_held, add_hours};
+use crate::sums::{add_held, add_profile};
 use layout::class::is_original;
+use layout::entry::Entry;
+use layout::ledger::Ledger;
 use layout::numbers::{NONFIRM_REDIRECT, RELINQUISH, REQTYPE};
 use layout::profile::Profile;
-use layout::rows::word_at;
-use layout::size::Size;
+use layout::row::Row;
 
 pub trait Test {
-    // Whether it is of trees.
-    ghost of_trees: { Bool };
+    // Of row n of the words l of a ledger of H hours. What the chains need of these the functions promise below, and no
+    // law: the proof of one would have to stand in specs.
 
-    // Row n has one.
-    fn is_tested(l: &[u32], size: Size, n: usize) -> bool
-        requires sized { Sized l.now size.rows size.hours }
-        requires n_lt_rows { n < size.rows }
-        ensures { result ≡ is_tested of_trees size.hours l.now n };
+    // It has one.
+    ghost is_tested: { (H : ℕ) (l : List ℕ) (n : ℕ) → Bool };
 
-    // The row that each used row counts for, as a reference.
-    fn link_rows(links: &mut [u32], l: &[u32], size: Size)
-        requires sound_at { SoundAt l.now size.rows size.hours }
-        requires links_len { length links.old ≡ used_rows l.now }
-        ensures { links.new ≡ build (used_rows l.now) (λ n. link_of of_trees size.hours l.now n) };
+    // The row that it counts for, as a reference.
+    ghost link: { (H : ℕ) (l : List ℕ) (n : ℕ) → ℕ };
 
-    // What row n holds is added, by hour, where the row does not count for itself.
-    fn add_own(sums: &mut [u32], l: &[u32], size: Size, n: usize)
-        requires sound_at { SoundAt l.now size.rows size.hours }
-        requires n_bound { n < used_rows l.now }
-        requires sums { Sums size.hours most_sum sums.old }
-        ensures { Adds (λ h. own_share of_trees size.hours l.now h n) sums.old sums.new };
+    // What it holds itself in hour h, where it does not count for itself; what it counts for another.
+    ghost own: { (H : ℕ) (l : List ℕ) (h n : ℕ) → ℕ };
 
-    // What row n counts for another is added.
-    fn add_share(sums: &mut [u32], l: &[u32], size: Size, n: usize)
-        requires sound_at { SoundAt l.now size.rows size.hours }
-        requires n_bound { n < used_rows l.now }
-        requires sums { Sums size.hours most_sum sums.old }
-        ensures { Adds (λ h. share_of of_trees size.hours l.now h n) sums.old sums.new };
+    ghost share: { (H : ℕ) (l : List ℕ) (h n : ℕ) → ℕ };
+
+    fn is_tested(row: Row) -> bool
+        ensures { let r = row.entry in result ≡ is_tested r.size.hours r.words.now r.n };
+
+    // The links of all used rows: each counts for itself, for one before it, or for none.
+    fn link_rows(links: &mut [u32], ledger: Ledger)
+        requires { length links.old ≡ used_rows ledger.words.now }
+        ensures links { let l = ledger.entry in
+            links.new ≡ build (used_rows l.words.now) (λ n. link l.size.hours l.words.now n) }
+        ensures low { let l = ledger.entry in
+            (n : ℕ) → n < used_rows l.words.now → link l.size.hours l.words.now n ≤ n + 1 };
+
+    // What it holds itself is added, hour by hour; what it counts for another.
+
+    fn add_own(sums: &mut [u32], entry: Entry)
+        requires { Sums entry.ledger.size.hours most_sum sums.old }
+        ensures sums { let e = entry.entry in
+            Adds (λ h. own e.ledger.size.hours e.ledger.words.now h e.n) sums.old sums.new }
+        ensures most { let e = entry.entry in
+            let hours = e.ledger.size.hours in
+            (h : ℕ) → h < hours → own hours e.ledger.words.now h e.n ≤ most_share };
+
+    fn add_share(sums: &mut [u32], entry: Entry)
+        requires { Sums entry.ledger.size.hours most_sum sums.old }
+        ensures sums { let e = entry.entry in
+            Adds (λ h. share e.ledger.size.hours e.ledger.words.now h e.n) sums.old sums.new }
+        ensures most { let e = entry.entry in
+            let hours = e.ledger.size.hours in
+            (h : ℕ) → h < hours → share hours e.ledger.words.now h e.n ≤ most_share };
 }
 
 // The equation of a row that stands and is no relinquish record.
 pub struct Equations;
 
 impl Test for Equations {
-    ghost of_trees = { false };
+    ghost is_tested = { has_equation };
 
-    #[tactic(auto, unfolding(crate::specs::Shares::is_tested, rules::specs::Open::has_equation))]
-    fn is_tested(l: &[u32], size: Size, n: usize) -> bool {
-        stands(l, size, n) && word_at(l, size, n, REQTYPE) != RELINQUISH
+    ghost link = { draw_link };
+
+    ghost own = { held_of };
+
+    ghost share = { drawn_share };
+
+    #[tactic(auto, unfolding(rules::specs::Open::has_equation))]
+    fn is_tested(row: Row) -> bool {
+        stands(row) && row.word(REQTYPE) != RELINQUISH
     }
 
-    #[tactic(auto, unfolding(crate::specs::Chains::link_of))]
-    fn link_rows(links: &mut [u32], l: &[u32], size: Size) {
-        link_draws(links, l, size);
+    #[tactic(auto, using(crate::proofs::Linked::draws_low))]
+    fn link_rows(links: &mut [u32], ledger: Ledger) {
+        link_draws(links, ledger);
     }
 
-    #[tactic(auto, unfolding(crate::specs::Shares::own_share))]
-    fn add_own(sums: &mut [u32], l: &[u32], size: Size, n: usize) {
-        add_held(sums, l, size, n);
+    #[tactic(auto, using(crate::proofs::Added::held_most))]
+    fn add_own(sums: &mut [u32], entry: Entry) {
+        add_held(sums, entry);
     }
 
-    fn add_share(sums: &mut [u32], l: &[u32], size: Size, n: usize) {
-        let is_nonfirm_redirect = word_at(l, size, n, REQTYPE) == NONFIRM_REDIRECT;
+    #[tactic(auto, using(crate::proofs::Added::drawn_most))]
+    fn add_share(sums: &mut [u32], entry: Entry) {
+        let is_nonfirm_redirect = entry.row().word(REQTYPE) == NONFIRM_REDIRECT;
         if is_nonfirm_redirect {
-            add_held(sums, l, size, n);
+            add_held(sums, entry);
         } else {
-            add_hours(sums, l, size, n, Profile::Granted);
+            add_profile(sums, entry, Profile::Granted);
         }
     }
 }
@@ -81,23 +103,29 @@ impl Test for Equations {
 pub struct Trees;
 
 impl Test for Trees {
-    ghost of_trees = { true };
+    ghost is_tested = { has_tree };
 
-    #[tactic(auto, unfolding(crate::specs::Shares::is_tested, rules::specs::Open::has_tree))]
-    fn is_tested(l: &[u32], size: Size, n: usize) -> bool {
-        stands(l, size, n) && is_original(word_at(l, size, n, REQTYPE))
+    ghost link = { root_link };
+
+    ghost own = { nothing_of };
+
+    ghost share = { held_of };
+
+    #[tactic(auto, unfolding(rules::specs::Open::has_tree))]
+    fn is_tested(row: Row) -> bool {
+        stands(row) && is_original(row.word(REQTYPE))
     }
 
-    #[tactic(auto, unfolding(crate::specs::Chains::link_of))]
-    fn link_rows(links: &mut [u32], l: &[u32], size: Size) {
-        link_roots(links, l, size);
+    #[tactic(auto, using(crate::proofs::Linked::roots_low))]
+    fn link_rows(links: &mut [u32], ledger: Ledger) {
+        link_roots(links, ledger);
     }
 
-    #[tactic(auto, using(paths::proofs::Hourly::adds_none), unfolding(crate::specs::Shares::own_share))]
-    fn add_own(_sums: &mut [u32], _l: &[u32], _size: Size, _n: usize) {}
+    #[tactic(auto, using(words::proofs::Sums::adds_none))]
+    fn add_own(_sums: &mut [u32], _entry: Entry) {}
 
-    #[tactic(auto, unfolding(crate::specs::Shares::share_of))]
-    fn add_share(sums: &mut [u32], l: &[u32], size: Size, n: usize) {
-        add_held(sums, l, size, n);
+    #[tactic(auto, using(crate::proofs::Added::held_most))]
+    fn add_share(sums: &mut [u32], entry: Entry) {
+        add_held(sums, entry);
     }
 }

@@ -1,15 +1,13 @@
 -- The changes of a confirmation and of an annulment, and no change: use by them is use by the rules.
 use mathlib.Core.Path.{◌≡◌, refl, sym, ap, subst, ◌∙◌}
-use mathlib.Core.Logic.{◌≢◌}
 use mathlib.Core.Bool.{Bool, true, false, ◌&&◌, ◌||◌, not}
 use mathlib.Core.List.{List}
 use Rattle.std.specs.Prelude.{Option, None, Some}
 use Prim.Native.Nat.{ℕ, ◌+◌, ◌-◌, ◌≤◌, ◌<◌}
-use native.Mathlib.Decide.{ℕ_discrete}
 use native.Mathlib.Omega.{arith}
 use lib.Dec.{eqb, leb, lit<}
 use lib.ListN.{length}
-use borrow.Author.Tests.{eq-eqb, ne_eqb, not-false}
+use borrow.Author.Tests.{eqb-true, not-false}
 use Rattle.words.specs.Lists.{word_at, within}
 use Rattle.words.proofs.Laws.{sum_cong, all_cong, within_all}
 use Rattle.rules.specs.Pick.{pick}
@@ -20,21 +18,24 @@ use Rattle.rules.specs.Moves.{is_confirmed}
 use Rattle.rules.specs.Megawatts.{in_force}
 use Rattle.rules.specs.Confirming.{short, drawn_from}
 use Rattle.rules.specs.Paths.{posted_in, holds_on, counts_on, use_of}
-use Rattle.rules.proofs.Picks.{and_stops}
 use Rattle.rules.proofs.Types.{derived_type}
 use Rattle.rules.proofs.Writes.{covered_hour}
-use Rattle.rules.proofs.SoundFacts.{SoundHours}
 use Rattle.rules.proofs.Spans.{span_at, hour_standing}
-use Rattle.rules.proofs.Spans as spans
 use Rattle.rules.proofs.After.{counts_by, confirmed_with, confirmed_but, held_confirming, held_annulling, use_confirming, use_annulling}
 use Rattle.rules.proofs.OverPaths.{exceeds, exceeds_at}
 use Rattle.layout.specs.SoundAt.{SoundAt}
-use Rattle.megawatts.specs.Placed.{Placed}
-use Rattle.megawatts.proofs.Laws.{own_words, own_length, room, span_fits, span_length, type_three, related_in, related_placed, redirect_three}
-use Rattle.megawatts.proofs.Named.{placed_at}
-use Rattle.paths.specs.declared.Change.{Change}
-use Rattle.paths.specs.Changes.{is_at, moved, confirmed_after, held_in, added_by, use_by, Changing}
-use Rattle.paths.specs.Exceeding.{above, Confirms, Annuls, Unchanged}
+use Rattle.layout.specs.declared.size.Size.{Size}
+use Rattle.layout.specs.declared.row.Row.{Row}
+use Rattle.layout.specs.Placed.{Placed}
+use Rattle.layout.proofs.Placed.{own_words, room, span_fits, span_length, type_three, related_in, placed_at}
+use Rattle.paths.specs.declared.change.Change.{Change}
+use Rattle.paths.specs.declared.change.Changed.{Changed}
+use Rattle.paths.specs.declared.change.Changed.TheVariants.{Nothing, Confirmed, Relinquished}
+use Rattle.paths.specs.declared.change.Held.{Held}
+use Rattle.paths.specs.declared.change.Held.TheVariants.{Same, Less, More, Whole, Nought}
+use Rattle.paths.specs.Changes.{is_at, moved, confirmed_after, held_then, held_by, held_in, added_by, use_by, Changing}
+use Rattle.paths.specs.Exceeding.{above, Confirms, Annuls}
+use Rattle.paths.proofs.Hourly.{spanned_at, hours_at}
 
 -- ---- by the same rows CONFIRMED; by the same use
 counts_cong : (H : ℕ) (l : List ℕ) (confirmed confirmed' : ℕ → Bool) → ((m : ℕ) → confirmed m ≡ confirmed' m) → (x m : ℕ) → counts_by H l confirmed x m ≡ counts_by H l confirmed' x m
@@ -55,65 +56,93 @@ module _ (H : ℕ) (ps : List ℕ) (uses uses' : ℕ → ℕ → ℕ) (same : (x
       ap (λ (b : Bool). b || not (original (reqtype (row H l n))) && exceeds H ps uses (path (row H l (related_row H l n)))) (exceeds_cong (path (row H l n)))
       ∙ ap (λ (b : Bool). exceeds H ps uses' (path (row H l n)) || not (original (reqtype (row H l n))) && b) (exceeds_cong (path (row H l (related_row H l n))))
 
+-- what is said of a row that was lent is said of the ledger's row n
+pub as_lent : (P : ℕ → List ℕ → ℕ → Type 0) (r : Row) {l : List ℕ} {s : Size} {n : ℕ}
+    → record { words : r.words.now ≡ l; size : r.size ≡ s; n : r.n ≡ n }
+    → P r.size.hours r.words.now r.n → P s.hours l n
+as_lent P r {l} {s} {n} e p =
+    subst (λ (x : Size). P x.hours l n) e.size
+    (subst (λ (x : List ℕ). P r.size.hours x n) e.words (subst (λ (x : ℕ). P r.size.hours r.words.now x) e.n p))
+
 -- ---- tests of a row that may be none
-pick_or : (b d : Bool) → pick b true d ≡ (b || d)
-pick_or true d = refl
-pick_or false d = refl
-
-pick_but : (b d : Bool) → pick b false d ≡ (not b && d)
-pick_but true d = refl
-pick_but false d = refl
-
-pick_not : (b : Bool) (u v : ℕ) → pick (not b) u v ≡ pick b v u
-pick_not true u v = refl
-pick_not false u v = refl
-
-picked : (o : Bool) (q m : ℕ) → is_at (pick o (Some q) None) m ≡ (o && eqb m q)
-picked true q m = refl
-picked false q m = refl
-
 picked_not : (o : Bool) (q m : ℕ) → is_at (pick o None (Some q)) m ≡ (not o && eqb m q)
 picked_not true q m = refl
 picked_not false q m = refl
 
--- available after a change, by the tests
-abbrev held : ℕ → ℕ → Bool → Bool → Bool → Bool → ℕ
-held a y own holds less more = pick own (pick holds y 0) (pick less (a - y) (pick more (a + y) a))
+-- what is held by one choice or the other
+held_pick : (b : Bool) (d k : Held) (a y : ℕ) → held_by (pick b d k) a y ≡ pick b (held_by d a y) (held_by k a y)
+held_pick true d k a y = refl
+held_pick false d k a y = refl
 
 moved_as : (c : Change) {s : ℕ} {mw : List ℕ} → c.start ≡ s → c.mw.now ≡ mw → (h : ℕ) → moved c h ≡ standing s mw h
 moved_as c {s} {mw} e f h = ap (λ (j : ℕ). standing j c.mw.now h) e ∙ ap (λ (v : List ℕ). standing s v h) f
 
+-- the changed rows, of known ones
+module _ (H : ℕ) (l : List ℕ) (c : Change) {q : Changed} (e : c.rows ≡ q) {s : ℕ} {mw : List ℕ} (f : c.start ≡ s) (g : c.mw.now ≡ mw) where
+  held_known : (m h : ℕ) → held_in H (row H l m) c m h ≡ held_by (held_then q m) (word_at (row H l m) (hour_at H available_part h)) (standing s mw h)
+  unfolding held_in
+  held_known m h =
+      ap (λ (z : ℕ). held_by (held_then c.rows m) (word_at (row H l m) (hour_at H available_part h)) z) (moved_as c f g h)
+      ∙ ap (λ (r : Changed). held_by (held_then r m) (word_at (row H l m) (hour_at H available_part h)) (standing s mw h)) e
+
 -- ---- confirming
-module _ {H : ℕ} {l : List ℕ} {n : ℕ} {mw : List ℕ} {c : Change} (k : Confirms H l n mw c) where
+-- a row that is then less than before is the related row
+less_redirect : (b d k : Bool) → pick b Nought (pick d Less (pick k More Same)) ≡ Less → d ≡ true
+less_redirect true d k e = absurd (cc)
+less_redirect false true k e = refl
+less_redirect false false true e = absurd (cc)
+less_redirect false false false e = absurd (cc)
+
+less_above : (b d : Bool) → pick b Whole (pick d Less Same) ≡ Less → d ≡ true
+less_above true d e = absurd (cc)
+less_above false true e = refl
+less_above false false e = absurd (cc)
+
+module _ (H : ℕ) (l : List ℕ) (n : ℕ) where
   abbrev t : ℕ
   t = reqtype (row H l n)
 
-  after_confirming : (m : ℕ) → confirmed_after H l c m ≡ confirmed_with H l n m
+  confirmed_rows_confirmed : (b : Bool) (p q m : ℕ) (u : Option ℕ) → confirmed_after H l (pick b (Relinquished n p q) (Confirmed n u)) m ≡ confirmed_with H l n m
   unfolding confirmed_after confirmed_with
+  confirmed_rows_confirmed true p q m u = refl
+  confirmed_rows_confirmed false p q m u = refl
+
+  -- by the types of a relinquish record and of others
+  held_rows : (b o : Bool) → (b ≡ true → o ≡ false) → (p q m a y : ℕ) → held_by (held_then (pick b (Relinquished n p q) (Confirmed n (pick o None (Some p)))) m) a y ≡ pick (eqb m n) (pick b 0 y) (pick (not o && eqb m p) (a - y) (pick (b && eqb m q) (a + y) a))
+  held_rows true true w p q m a y = let z : true ≡ false = w refl in absurd (cc)
+  held_rows true false w p q m a y =
+      held_pick (eqb m n) Nought (pick (eqb m p) Less (pick (eqb m q) More Same)) a y
+      ∙ ap (λ (v : ℕ). pick (eqb m n) 0 v) (held_pick (eqb m p) Less (pick (eqb m q) More Same) a y ∙ ap (λ (v : ℕ). pick (eqb m p) (a - y) v) (held_pick (eqb m q) More Same a y))
+  held_rows false o w p q m a y =
+      held_pick (eqb m n) Whole (pick (is_at (pick o None (Some p)) m) Less Same) a y
+      ∙ ap (λ (v : ℕ). pick (eqb m n) y v) (held_pick (is_at (pick o None (Some p)) m) Less Same a y ∙ ap (λ (d : Bool). pick d (a - y) a) (picked_not o p m))
+
+  less_rows : (b o : Bool) → (b ≡ true → o ≡ false) → (p q m : ℕ) → held_then (pick b (Relinquished n p q) (Confirmed n (pick o None (Some p)))) m ≡ Less → (o ≡ false) × (eqb m p ≡ true)
+  less_rows true o w p q m e = (w refl, less_redirect (eqb m n) (eqb m p) (eqb m q) e)
+  less_rows false true w p q m e = let z : false ≡ true = less_above (eqb m n) false e in absurd (cc)
+  less_rows false false w p q m e = (refl, less_above (eqb m n) (eqb m p) e)
+
+  record_derived : eqb (reqtype (row H l n)) RELINQUISH ≡ true → original (reqtype (row H l n)) ≡ false
+  record_derived e = derived_type _ (omega (arith, eqb-true (reqtype (row H l n)) RELINQUISH e))
+
+module _ {H : ℕ} {l : List ℕ} {n : ℕ} {mw : List ℕ} {c : Change} (k : Confirms H l n mw c) where
+  after_confirming : (m : ℕ) → confirmed_after H l c.rows m ≡ confirmed_with H l n m
   after_confirming m =
-      ap (λ (j : Option ℕ). pick (is_at j m) c.confirmed (is_confirmed (row H l m))) k.own
-      ∙ ap (λ (b : Bool). pick (eqb m n) b (is_confirmed (row H l m))) k.confirmed
-      ∙ pick_or (eqb m n) (is_confirmed (row H l m))
+      ap (λ (r : Changed). confirmed_after H l r m) k.rows
+      ∙ confirmed_rows_confirmed H l n (eqb (reqtype (row H l n)) RELINQUISH) (related_row H l n) (related_row H l (related_row H l n)) m (above H l n)
 
   held_with : (h m : ℕ) → held_in H (row H l m) c m h ≡ held_confirming H l n mw h m
-  unfolding held_in held_confirming
+  unfolding held_confirming
   held_with h m =
-      let a : ℕ = word_at (row H l m) (hour_at H available_part h) in
-      let y : ℕ = standing (start (row H l n)) mw h in
-      let p : ℕ = related_row H l n in
-      let q : ℕ = related_row H l (related_row H l n) in
-      ap (λ (z : ℕ). held a z (is_at c.row m) c.holds (is_at c.less m) (is_at c.more m)) (moved_as c k.start k.given h)
-      ∙ ap (λ (j : Option ℕ). held a y (is_at j m) c.holds (is_at c.less m) (is_at c.more m)) k.own
-      ∙ ap (λ (b : Bool). held a y (eqb m n) b (is_at c.less m) (is_at c.more m)) k.holds
-      ∙ ap (λ (b : Bool). held a y (eqb m n) (not (eqb t RELINQUISH)) b (is_at c.more m)) (ap (λ (j : Option ℕ). is_at j m) k.less ∙ picked_not (original t) p m)
-      ∙ ap (λ (b : Bool). held a y (eqb m n) (not (eqb t RELINQUISH)) (not (original t) && eqb m p) b) (ap (λ (j : Option ℕ). is_at j m) k.more ∙ picked (eqb t RELINQUISH) q m)
-      ∙ ap (λ (v : ℕ). pick (eqb m n) v (pick (not (original t) && eqb m p) (a - y) (pick (eqb t RELINQUISH && eqb m q) (a + y) a))) (pick_not (eqb t RELINQUISH) y 0)
+      held_known H l c k.rows k.start k.given m h
+      ∙ held_rows H l n (eqb (reqtype (row H l n)) RELINQUISH) (original (reqtype (row H l n))) (record_derived H l n) (related_row H l n) (related_row H l (related_row H l n)) m
+      (word_at (row H l m) (hour_at H available_part h)) (standing (start (row H l n)) mw h)
 
   pub use_confirming_lem : (x h : ℕ) → use_by H l c x h ≡ use_confirming H l n mw x h
   unfolding use_by use_confirming added_by
   use_confirming_lem x h =
       sum_cong (used l) _ _ (λ m lt.
-      ap (λ (b : Bool). pick b (held_in H (row H l m) c m h) 0) (counts_cong H l (confirmed_after H l c) (confirmed_with H l n) after_confirming x m)
+      ap (λ (b : Bool). pick b (held_in H (row H l m) c m h) 0) (counts_cong H l (confirmed_after H l c.rows) (confirmed_with H l n) after_confirming x m)
       ∙ ap (λ (v : ℕ). pick (counts_by H l (confirmed_with H l n) x m) v 0) (held_with h m))
 
 not_short : (o d : Bool) → o ≡ false → (not o && not d) ≡ false → d ≡ true
@@ -124,41 +153,32 @@ module _ {l : List ℕ} {R H n : ℕ} (s : SoundAt l R H) (lt : n < used l) wher
   own = placed_at s lt
 
   module _ {c : Change} {mw : List ℕ} (k : Confirms H l n mw c) (long : length mw ≡ span_hours (row H l n)) where
-    drawn_by : (o : Bool) → original (reqtype (row H l n)) ≡ o → short H l n mw ≡ false → (m : ℕ) → c.less ≡ Some m → (h : ℕ) → h < H → moved c h ≤ word_at (row H l m) (hour_at H available_part h)
+    drawn_by : short H l n mw ≡ false → (m : ℕ) → held_then c.rows m ≡ Less → (h : ℕ) → h < H → moved c h ≤ word_at (row H l m) (hour_at H available_part h)
     unfolding short drawn_from
-    drawn_by true e ample m less h hlt =
-        let z : None ≡ Some m = sym (k.less ∙ ap (λ (b : Bool). pick b None (Some (related_row H l n))) e) ∙ less in
-        absurd (cc)
-    drawn_by false e ample m less h hlt =
-        let z : Some (related_row H l n) ≡ Some m = sym (k.less ∙ ap (λ (b : Bool). pick b None (Some (related_row H l n))) e) ∙ less in
-        let q : related_row H l n ≡ m = cc in
+    drawn_by ample m less h hlt =
+        let p : ℕ = related_row H l n in
+        let w = less_rows H l n (eqb (reqtype (row H l n)) RELINQUISH) (original (reqtype (row H l n))) (record_derived H l n) (related_row H l n) (related_row H l (related_row H l n)) m
+        (ap (λ (r : Changed). held_then r m) (sym k.rows) ∙ less) in
         subst (λ (v : ℕ). v ≤ word_at (row H l m) (hour_at H available_part h)) (sym (moved_as c k.start k.given h))
-        (subst (λ (j : ℕ). standing (start (row H l n)) mw h ≤ word_at (row H l j) (hour_at H available_part h)) q
-        (covered_hour hlt (room own mw long (related_in own (type_three own e))) available_part (lit< tt) (not_short (original (reqtype (row H l n))) _ e ample)))
+        (subst (λ (j : ℕ). standing (start (row H l n)) mw h ≤ word_at (row H l j) (hour_at H available_part h)) (sym (eqb-true m p w.1))
+        (covered_hour hlt (room own mw long (related_in own (type_three own w.0))) available_part (lit< tt) (not_short (original (reqtype (row H l n))) _ w.0 ample)))
 
-    pub confirming_fits : within most_megawatts mw ≡ true → short H l n mw ≡ false → Changing l R H c
+    pub confirming_fits : within most_megawatts mw ≡ true → short H l n mw ≡ false → Changing l H c
     confirming_fits most ample = record {
-      sound = s;
       fits = omega (arith, span_fits own mw long, k.start, ap length k.given);
       most = ap (λ (v : List ℕ). within most_megawatts v) k.given ∙ most;
-      drawn = λ m less _. drawn_by (original (reqtype (row H l n))) refl ample m less;
+      drawn = λ m less _. drawn_by ample m less;
     }
 
 -- ---- a span of row n has no word over 100,000
 module _ {l : List ℕ} {R H n : ℕ} (s : SoundAt l R H) (lt : n < used l) where
-  hours_of_lem : SoundHours H (row H l n)
-  hours_of_lem = subst (λ (j : ℕ). SoundHours j (row j l n)) (sym s.hours) (s.sound.profiles n lt)
-
-  spanned : spans.Spanned H (row H l n)
-  spanned = let p = own s lt in record { long = own_length p; starts = omega (arith, (own_words p).starts); stops = (own_words p).stops }
-
   pub span_most : (q : ℕ) → q < profiles → within most_megawatts (span H q (row H l n)) ≡ true
   span_most q qlt =
       let e = span_length (own s lt) q qlt in
       let w = own_words (own s lt) in
       within_all most_megawatts (span H q (row H l n)) (λ j jlt.
       let j' : j < span_hours (row H l n) = omega (arith, jlt, e) in
-      omega (arith, span_at spanned q qlt j j', hours_of_lem.most q (start (row H l n) + j) qlt (omega (arith, j', w.starts, w.stops))))
+      omega (arith, span_at (spanned_at s lt) q qlt j j', (hours_at s lt).most q (start (row H l n) + j) qlt (omega (arith, j', w.starts, w.stops))))
 
   pub force_most : within most_megawatts (in_force H (row H l n)) ≡ true
   unfolding in_force
@@ -169,110 +189,51 @@ module _ {l : List ℕ} {R H n : ℕ} (s : SoundAt l R H) (lt : n < used l) wher
       go false = span_most requested_part (lit< tt)
 
 -- ---- annulling
+not_less : (b : Bool) → pick b More Same ≡ Less → ⊥
+not_less true e = cc
+not_less false e = cc
+
 module _ {l : List ℕ} {R H n : ℕ} (s : SoundAt l R H) (lt : n < used l) {c : Change} (k : Annuls H l n c) where
-  pub annulling_fits : Changing l R H c
+  pub annulling_fits : Changing l H c
   annulling_fits = record {
-    sound = s;
     fits = omega (arith, span_fits (own s lt) (granted H (row H l n)) (span_length (own s lt) granted_part (lit< tt)), k.start, ap length k.given);
     most = ap (λ (v : List ℕ). within most_megawatts v) k.given ∙ span_most s lt granted_part (lit< tt);
-    drawn = λ m less mlt h hlt. absurd (let z : None ≡ Some m = sym k.less ∙ less in cc);
+    drawn = λ m less mlt h hlt. absurd (not_less (is_at (above H l n) m) (ap (λ (r : Changed). held_then r m) (sym k.rows) ∙ less));
   }
 
-  after_annulling : (m : ℕ) → confirmed_after H l c m ≡ confirmed_but H l n m
+  after_annulling : (m : ℕ) → confirmed_after H l c.rows m ≡ confirmed_but H l n m
   unfolding confirmed_after confirmed_but
-  after_annulling m =
-      ap (λ (j : Option ℕ). pick (is_at j m) c.confirmed (is_confirmed (row H l m))) k.own
-      ∙ ap (λ (b : Bool). pick (eqb m n) b (is_confirmed (row H l m))) k.confirmed
-      ∙ pick_but (eqb m n) (is_confirmed (row H l m))
+  after_annulling m = ap (λ (r : Changed). confirmed_after H l r m) k.rows
 
-  -- row n no longer counts
-  but_own : confirmed_but H l n n ≡ false
-  unfolding confirmed_but
-  but_own = ap (λ (b : Bool). not b && is_confirmed (row H l n)) (eq-eqb n n refl)
-
-  counts_own : (x : ℕ) → counts_by H l (confirmed_but H l n) x n ≡ false
-  unfolding counts_by
-  counts_own x = sym (and_stops _ _ but_own)
-
-  held_but : (h m : ℕ) → h < H → m ≢ n → held_in H (row H l m) c m h ≡ held_annulling H l n h m
-  unfolding held_in held_annulling
-  held_but h m hlt mn =
+  held_but : (h m : ℕ) → h < H → held_in H (row H l m) c m h ≡ held_annulling H l n h m
+  unfolding held_annulling
+  held_but h m hlt =
       let a : ℕ = word_at (row H l m) (hour_at H available_part h) in
       let y : ℕ = standing (start (row H l n)) (granted H (row H l n)) h in
-      let p : ℕ = related_row H l n in
-      ap (λ (z : ℕ). held a z (is_at c.row m) c.holds (is_at c.less m) (is_at c.more m)) (moved_as c k.start k.given h)
-      ∙ ap (λ (b : Bool). held a y b c.holds (is_at c.less m) (is_at c.more m)) (ap (λ (j : Option ℕ). is_at j m) k.own ∙ ne_eqb m n mn)
-      ∙ ap (λ (j : Option ℕ). pick (is_at j m) (a - y) (pick (is_at c.more m) (a + y) a)) k.less
-      ∙ ap (λ (b : Bool). pick b (a + y) a) (ap (λ (j : Option ℕ). is_at j m) k.more ∙ picked_not (original (reqtype (row H l n))) p m)
-      ∙ ap (λ (v : ℕ). pick (not (original (reqtype (row H l n))) && eqb m p) (a + v) a) (sym (hour_standing (spanned s lt) granted_part (lit< tt) (λ j jlt z. (hours_of_lem s lt).outside granted_part j (lit< tt) jlt z) h hlt))
+      held_known H l c k.rows k.start k.given m h
+      ∙ held_pick (is_at (above H l n) m) More Same a y
+      ∙ ap (λ (b : Bool). pick b (a + y) a) (picked_not (original (reqtype (row H l n))) (related_row H l n) m)
+      ∙ ap (λ (v : ℕ). pick (not (original (reqtype (row H l n))) && eqb m (related_row H l n)) (a + v) a) (sym (hour_standing (spanned_at s lt) granted_part (lit< tt) (λ j jlt z. (hours_at s lt).outside granted_part j (lit< tt) jlt z) h hlt))
 
   pub use_annulling_lem : (x h : ℕ) → h < H → use_by H l c x h ≡ use_annulling H l n x h
   unfolding use_by use_annulling added_by
-  use_annulling_lem x h hlt = sum_cong (used l) _ _ (λ m mlt. ap (λ (b : Bool). pick b (held_in H (row H l m) c m h) 0) (counts_cong H l (confirmed_after H l c) (confirmed_but H l n) after_annulling x m) ∙ go m mlt (ℕ_discrete m n))
-    where
-      go : (m : ℕ) → m < used l → Dec (m ≡ n) → pick (counts_by H l (confirmed_but H l n) x m) (held_in H (row H l m) c m h) 0 ≡ pick (counts_by H l (confirmed_but H l n) x m) (held_annulling H l n h m) 0
-      go m mlt (yes e) =
-          let z : counts_by H l (confirmed_but H l n) x m ≡ false = ap (λ (j : ℕ). counts_by H l (confirmed_but H l n) x j) e ∙ counts_own x in
-          ap (λ (b : Bool). pick b (held_in H (row H l m) c m h) 0) z ∙ sym (ap (λ (b : Bool). pick b (held_annulling H l n h m) 0) z)
-      go m mlt (no ne) = ap (λ (v : ℕ). pick (counts_by H l (confirmed_but H l n) x m) v 0) (held_but h m hlt ne)
+  use_annulling_lem x h hlt =
+      sum_cong (used l) _ _ (λ m mlt.
+      ap (λ (b : Bool). pick b (held_in H (row H l m) c m h) 0) (counts_cong H l (confirmed_after H l c.rows) (confirmed_but H l n) after_annulling x m)
+      ∙ ap (λ (v : ℕ). pick (counts_by H l (confirmed_but H l n) x m) v 0) (held_but h m hlt))
 
 -- ---- no change
-module _ {l : List ℕ} {R H : ℕ} (s : SoundAt l R H) {c : Change} (k : Unchanged c) where
-  after_nothing : (m : ℕ) → confirmed_after H l c m ≡ is_confirmed (row H l m)
+module _ (H : ℕ) (l : List ℕ) (c : Change) (k : c.rows ≡ Nothing) where
+  after_nothing : (m : ℕ) → confirmed_after H l c.rows m ≡ is_confirmed (row H l m)
   unfolding confirmed_after
-  after_nothing m = ap (λ (j : Option ℕ). pick (is_at j m) c.confirmed (is_confirmed (row H l m))) k.own
-
-  held_now : (h m : ℕ) → held_in H (row H l m) c m h ≡ word_at (row H l m) (hour_at H available_part h)
-  unfolding held_in
-  held_now h m =
-      let a : ℕ = word_at (row H l m) (hour_at H available_part h) in
-      ap (λ (j : Option ℕ). held a (moved c h) (is_at j m) c.holds (is_at c.less m) (is_at c.more m)) k.own
-      ∙ ap (λ (j : Option ℕ). pick (is_at j m) (a - moved c h) (pick (is_at c.more m) (a + moved c h) a)) k.less
-      ∙ ap (λ (j : Option ℕ). pick (is_at j m) (a + moved c h) a) k.more
+  after_nothing m = ap (λ (r : Changed). confirmed_after H l r m) k
 
   pub use_now : (x h : ℕ) → use_by H l c x h ≡ use_of H l x h
   unfolding use_by added_by use_of counts_on holds_on counts_by
   use_now x h =
       sum_cong (used l) _ _ (λ m lt.
-      ap (λ (b : Bool). pick b (held_in H (row H l m) c m h) 0) (counts_cong H l (confirmed_after H l c) (λ j. is_confirmed (row H l j)) after_nothing x m)
-      ∙ ap (λ (v : ℕ). pick (counts_by H l (λ j. is_confirmed (row H l j)) x m) v 0) (held_now h m))
+      ap (λ (b : Bool). pick b (held_in H (row H l m) c m h) 0) (counts_cong H l (confirmed_after H l c.rows) (λ j. is_confirmed (row H l j)) after_nothing x m)
+      ∙ ap (λ (v : ℕ). pick (counts_by H l (λ j. is_confirmed (row H l j)) x m) v 0) (held_known H l c k refl refl m h))
 
-  pub unchanged_fits : c.start + length c.mw.now ≤ H → within most_megawatts c.mw.now ≡ true → Changing l R H c
-  unchanged_fits fits most = record { sound = s; fits = fits; most = most; drawn = λ m less _ h hlt. absurd (let z : None ≡ Some m = sym k.less ∙ less in cc) }
-
--- ---- the row that row n is related to, as the functions find it
-module _ (H : ℕ) (l : List ℕ) (n : ℕ) where
-  by_type : {o : Bool} → original (reqtype (row H l n)) ≡ o → above H l n ≡ pick o None (Some (related_row H l n))
-  by_type e = ap (λ (b : Bool). pick b None (Some (related_row H l n))) e
-
-  pub above_some : {k : ℕ} → above H l n ≡ Some k → (original (reqtype (row H l n)) ≡ false) × (k ≡ related_row H l n)
-  above_some {k} e = go (original (reqtype (row H l n))) refl
-    where
-      go : (o : Bool) → original (reqtype (row H l n)) ≡ o → (original (reqtype (row H l n)) ≡ false) × (k ≡ related_row H l n)
-      go true z = let q : None ≡ Some k = sym (by_type z) ∙ e in absurd (cc)
-      go false z = let q : Some (related_row H l n) ≡ Some k = sym (by_type z) ∙ e in (z, cc)
-
-  pub above_none : above H l n ≡ None → original (reqtype (row H l n)) ≡ true
-  above_none e = go (original (reqtype (row H l n))) refl
-    where
-      go : (o : Bool) → original (reqtype (row H l n)) ≡ o → original (reqtype (row H l n)) ≡ true
-      go true z = z
-      go false z = let q : Some (related_row H l n) ≡ None = sym (by_type z) ∙ e in absurd (cc)
-
-pub above_placed : {l : List ℕ} {R H n : ℕ} → Placed l R H n → {k : ℕ} → above H l n ≡ Some k → Placed l R H k
-above_placed {l} {R} {H} {n} p e =
-    let a = above_some H l n e in
-    subst (λ (j : ℕ). Placed l R H j) (sym a.1) (related_placed p (type_three p a.0))
-
--- the redirect that a relinquish record is related to has a row above it
-module _ {l : List ℕ} {R H n : ℕ} (p : Placed l R H n) (e : reqtype (row H l n) ≡ RELINQUISH) where
-  three : 3 ≤ reqtype (row H l n)
-  three = omega (arith, e)
-
-  pub redirect_placed : Placed l R H (related_row H l n)
-  redirect_placed = related_placed p three
-
-  pub above_redirect : {k : ℕ} → k ≡ related_row H l n → above H l k ≡ Some (related_row H l (related_row H l n))
-  above_redirect {k} is =
-      ap (λ (j : ℕ). above H l j) is
-      ∙ by_type H l (related_row H l n) (derived_type _ (redirect_three p e))
+  pub unchanged_fits : c.start + length c.mw.now ≤ H → within most_megawatts c.mw.now ≡ true → Changing l H c
+  unchanged_fits fits most = record { fits = fits; most = most; drawn = λ m less _ h hlt. absurd (let z : Same ≡ Less = ap (λ (r : Changed). held_then r m) (sym k) ∙ less in cc) }

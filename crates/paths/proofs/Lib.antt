@@ -1,4 +1,3 @@
-pub mod Counts
 pub mod Hourly
 pub mod Walk
 pub mod Changed

@@ -10,7 +10,7 @@ use lib.Seq.{get_or-take, get_or-drop, length-take-le}
 use Rattle.words.specs.Lists.{part, splice, all_below, covered}
 use Rattle.words.proofs.Laws.{all_cong, part_length, splice_length, splice_before, splice_in, splice_after, splice_part}
 use Rattle.rules.specs.Paths.{posting_at, posted_in}
-use Rattle.paths.specs.Exceeding.{Postings, Path}
+use Rattle.paths.specs.Exceeding.{Postings, KnownPath}
 use Rattle.paths.proofs.Posted.{posted_fits}
 
 all_split : (a b : ℕ) (p : ℕ → Bool) → all_below (a + b) p ≡ (all_below a p && all_below b (λ k. p (a + k)))
@@ -79,7 +79,7 @@ module _ (sums own v : List ℕ) (s : ℕ) (long : length own ≡ length sums) (
       ∙ ap (λ (b : Bool). all_below s P && b) (all_split n m (λ k. P (s + k))))
 
 -- the path's part of the postings with the profile is what is then posted for it
-module _ {H : ℕ} {ps : List ℕ} {x : ℕ} (p : Postings H ps) (path : Path x) (s : ℕ) (v : List ℕ) (fits : s + length v ≤ H) where
+module _ {H : ℕ} {ps : List ℕ} {x : ℕ} (p : Postings H ps) (path : KnownPath x) (s : ℕ) (v : List ℕ) (fits : s + length v ≤ H) where
   pub overlaid_each : (k : ℕ) → k < H → get_or (splice (part ps (posting_at H x 0) H) s v) k 0 ≡ posted_in H (splice ps (posting_at H x s) v) x k
   unfolding posted_in posting_at
   overlaid_each k lt =

@@ -1,20 +1,18 @@
-// Sums of a walk over the rows, hour by hour, on a lent slice.
-ghost use Rattle.std.specs.Prelude.{◌≡◌, ◌<◌};
-ghost use Rattle.words.specs.Lists.{word_at, noughts};
+// Sums of a walk over the rows, hour by hour, on a lent slice. A type that holds the memory for them could not lend its
+// hours for writing: no clause can be shown of a lent part of an array.
+ghost use Rattle.std.specs.Prelude.{◌≡◌, ◌<◌, length};
+ghost use Rattle.words.specs.Lists.{word_at};
+ghost use Rattle.words.specs.Sums.{Adds, Takes, Summed};
 ghost use Rattle.rules.specs.Numbers.{available_part};
 ghost use Rattle.rules.specs.Layout.{used as used_rows, row, hour_at, standing};
-ghost use Rattle.rules.proofs.SoundFacts.{SoundHours};
 ghost use Rattle.rules.specs.Paths.{use_of};
-ghost use Rattle.layout.specs.Bounds.{Spanned};
-ghost use Rattle.layout.specs.SoundAt.{SoundAt};
-ghost use Rattle.paths.specs.Changes.{held_in, added_by, use_by, Changing, RowChanging, Sums, Adding, Taking, Adds, Takes, Summed};
+ghost use Rattle.layout.specs.Rows.{own_of};
+ghost use Rattle.paths.specs.Changes.{held_in, added_by, use_by, Changing, Sums, Adding, Taking};
 
-use crate::Change;
-use crate::counting::counts;
-use layout::numbers::{START, STOP, USED};
+use crate::change::{Change, Changed, Held};
+use layout::entry::Entry;
+use layout::ledger::Ledger;
 use layout::profile::Profile;
-use layout::rows::{hours, row};
-use layout::size::Size;
 
 // v is added from hour start on; it is taken off. Each is one call: one function generic in it would be no plainer.
 
@@ -32,82 +30,89 @@ fn less_at(sums: &mut [u32], start: usize, v: &[u32])
     words::subtract(&mut sums[start..start + v.len()], v);
 }
 
-// Available of the row r is added, in its span: it is 0 outside.
-fn add_available(sums: &mut [u32], r: &[u32], size: Size)
-    requires spanned { Spanned size.hours r.now }
-    requires sound_hours { SoundHours size.hours r.now }
-    requires sums { Sums size.hours sums.old }
-    ensures { Adds (λ h. word_at r.now (hour_at size.hours available_part h)) sums.old sums.new }
+// Available of a row is added, in its span: it is 0 outside.
+fn add_available(sums: &mut [u32], entry: Entry)
+    requires { Sums entry.ledger.size.hours sums.old }
+    ensures { let hours = entry.entry.ledger.size.hours in
+        Adds (λ h. word_at (own_of entry.entry) (hour_at hours available_part h)) sums.old sums.new }
 {
-    let start = r[START] as usize;
-    let count = r[STOP] as usize - start;
-    add_at(
-        sums,
-        start,
-        hours(r, size, Profile::Available, start, count),
-    );
+    let r = entry.reservation();
+    add_at(sums, r.row.start(), r.span(Profile::Available));
 }
 
-// What row m, which is r, holds after the change is added.
-fn add_row(sums: &mut [u32], r: &[u32], size: Size, c: Change, m: usize)
-    requires row_changing { RowChanging size.hours r.now c m }
-    requires sums { Sums size.hours sums.old }
-    ensures { Adds (λ h. held_in size.hours r.now c.entry m h) sums.old sums.new }
-{
-    if c.row == Some(m) {
-        if c.holds {
-            add_at(sums, c.start, c.mw);
+// A ledger, and a change that can be made to it.
+#[derive(Clone, Copy)]
+pub(crate) struct Walk<'a> {
+    pub ledger: Ledger<'a>,
+    pub change: Change<'a>,
+    ghost changing: { Changing ledger.words.now ledger.size.hours change },
+}
+
+impl<'a> Walk<'a> {
+    // What row m holds after the change is added.
+    fn add_row(self, sums: &mut [u32], m: usize)
+        requires m_bound { m < used_rows self.ledger.words.now }
+        requires sums { Sums self.ledger.size.hours sums.old }
+        ensures { let ledger = self.entry.ledger in
+            let own = row ledger.size.hours ledger.words.now m in
+            Adds (λ h. held_in ledger.size.hours own self.entry.change m h) sums.old sums.new }
+    {
+        let c = self.change;
+        let entry = Entry {
+            ledger: self.ledger,
+            n: m,
+        };
+        match c.rows.held(m) {
+            Held::Same => add_available(sums, entry),
+            Held::Less => {
+                add_available(sums, entry);
+                less_at(sums, c.start, c.mw);
+            }
+            Held::More => {
+                add_available(sums, entry);
+                add_at(sums, c.start, c.mw);
+            }
+            Held::Whole => add_at(sums, c.start, c.mw),
+            Held::Nought => {}
         }
-        return;
     }
-    add_available(sums, r, size);
-    if c.less == Some(m) {
-        less_at(sums, c.start, c.mw);
-        return;
+
+    // The same, if it counts in the use of path x.
+    #[tactic(auto, using(crate::proofs::Walk::row_added))]
+    fn add_counted(self, sums: &mut [u32], x: u32, m: usize)
+        requires m_bound { m < used_rows self.ledger.words.now }
+        requires sums { Sums self.ledger.size.hours sums.old }
+        ensures { let ledger = self.entry.ledger in
+            Adds (λ h. added_by ledger.size.hours ledger.words.now self.entry.change x m h) sums.old sums.new }
+    {
+        if self.change.rows.counts(self.ledger.reservation(m), x) {
+            self.add_row(sums, m);
+        }
     }
-    if c.more == Some(m) {
-        add_at(sums, c.start, c.mw);
+
+    // The walk: the sums become the use of path x after the change.
+    pub(crate) fn add_rows(self, sums: &mut [u32], x: u32)
+        requires { length sums.old ≡ self.ledger.size.hours }
+        ensures { let ledger = self.entry.ledger in
+            Summed ledger.size.hours (λ h. use_by ledger.size.hours ledger.words.now self.entry.change x h) sums.new }
+    {
+        words::clear(sums);
+        for m in 0..self.ledger.used() {
+            self.add_counted(sums, x, m);
+        }
     }
 }
 
-// The same, if it counts in the use of path x.
-fn add_counted(sums: &mut [u32], r: &[u32], l: &[u32], size: Size, c: Change, x: u32, m: usize)
-    requires changing { Changing l.now size.rows size.hours c }
-    requires m_bound { m < used_rows l.now }
-    requires r_value { r.now ≡ row size.hours l.now m }
-    requires sums { Sums size.hours sums.old }
-    ensures { Adds (λ h. added_by size.hours l.now c.entry x m h) sums.old sums.new }
+// Where nothing changes: the sums become the use of path x.
+pub fn add_use(sums: &mut [u32], ledger: Ledger, x: u32)
+    requires { length sums.old ≡ ledger.size.hours }
+    ensures { let ledger = ledger.entry in
+        Summed ledger.size.hours (λ h. use_of ledger.size.hours ledger.words.now x h) sums.new }
 {
-    if counts(r, l, size, c, x, m) {
-        add_row(sums, r, size, c, m);
-    }
-}
-
-// The walk: sums that were 0 are the use of path x after the change.
-pub fn add_rows(sums: &mut [u32], l: &[u32], size: Size, c: Change, x: u32)
-    requires changing { Changing l.now size.rows size.hours c }
-    requires sums_value { sums.old ≡ noughts size.hours }
-    ensures { Summed size.hours (λ h. use_by size.hours l.now c.entry x h) sums.new }
-{
-    for m in 0..l[USED] as usize {
-        add_counted(sums, row(l, size, m), l, size, c, x, m);
-    }
-}
-
-// Where nothing changes: sums that were 0 are the use of path x.
-pub fn add_use(sums: &mut [u32], l: &[u32], size: Size, x: u32)
-    requires sound_at { SoundAt l.now size.rows size.hours }
-    requires sums_value { sums.old ≡ noughts size.hours }
-    ensures { Summed size.hours (λ h. use_of size.hours l.now x h) sums.new }
-{
-    let none = Change {
-        row: None,
-        confirmed: false,
-        holds: false,
-        less: None,
-        more: None,
+    let change = Change {
+        rows: Changed::Nothing,
         start: 0,
         mw: &[],
     };
-    add_rows(sums, l, size, none, x);
+    Walk { ledger, change }.add_rows(sums, x);
 }

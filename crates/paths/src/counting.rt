@@ -1,54 +1,54 @@
 // Whether a row counts in the use of a path.
-ghost use Rattle.std.specs.Prelude.{◌≡◌, ◌&&◌, ◌<◌, eqb};
-ghost use Rattle.rules.specs.Pick.{pick};
-ghost use Rattle.rules.specs.Numbers.{CONFIRMED as confirmed_status};
-ghost use Rattle.rules.specs.Layout.{Sized, row, path};
+ghost use Rattle.std.specs.Prelude.{◌≡◌, ◌&&◌, eqb};
+ghost use Rattle.rules.specs.Layout.{path};
 ghost use Rattle.rules.proofs.After.{counts_by};
-ghost use Rattle.megawatts.specs.Placed.{Placed};
-ghost use Rattle.paths.specs.Changes.{is_at, confirmed_after};
+ghost use Rattle.layout.specs.Rows.{own};
+ghost use Rattle.paths.specs.Changes.{confirmed_after};
 
-use crate::Change;
-use layout::numbers::{CONFIRMED, NONFIRM_REDIRECT, PATH, RELATED, REQTYPE, STATUS};
-use layout::rows::word_at;
-use layout::size::Size;
-use rules::Reference;
+use crate::change::Changed;
+use layout::numbers::{CONFIRMED, NONFIRM_REDIRECT, PATH, REQTYPE, STATUS};
+use layout::reservation::Reservation;
+use layout::row::Row;
 
-// Row m, which has this status, is CONFIRMED after the change.
-fn confirmed_after(status: u32, c: Change, m: usize) -> bool
-    ensures { result ≡ pick (is_at c.entry.row m) c.entry.confirmed (eqb status confirmed_status) }
-{
-    if c.row == Some(m) {
-        return c.confirmed;
+impl Changed {
+    // The row is CONFIRMED after the change.
+    #[tactic(auto, unfolding(crate::specs::Changes::confirmed_after, rules::specs::Moves::is_confirmed))]
+    fn is_confirmed(self, row: Row) -> bool
+        ensures { let row = row.entry in result ≡ confirmed_after row.size.hours row.words.now self row.n }
+    {
+        let now = row.word(STATUS) == CONFIRMED;
+        match self {
+            Changed::Nothing => now,
+            Changed::Confirmed { row: own, .. } => row.n == own || now,
+            Changed::Relinquished { record, .. } => row.n == record || now,
+            Changed::Annulled { row: own, .. } => row.n != own && now,
+        }
     }
-    status == CONFIRMED
-}
 
-// It is so and of path x.
-fn is_holder(l: &[u32], size: Size, c: Change, x: u32, m: usize) -> bool
-    requires sized { Sized l.now size.rows size.hours }
-    requires m_lt_rows { m < size.rows }
-    ensures { result ≡ (confirmed_after size.hours l.now c.entry m && eqb (path (row size.hours l.now m)) x) }
-{
-    let status = word_at(l, size, m, STATUS);
-    let own = word_at(l, size, m, PATH);
-    confirmed_after(status, c, m) && own == x
-}
+    // It is so and of path x.
+    fn is_holder(self, row: Row, x: u32) -> bool
+        ensures { let row = row.entry in
+            result ≡ (confirmed_after row.size.hours row.words.now self row.n && eqb (path (own row)) x) }
+    {
+        self.is_confirmed(row) && row.word(PATH) == x
+    }
 
-// Row m, which is r, counts: it is of the path, or a type 5 that is related to such a row.
-pub fn counts(r: &[u32], l: &[u32], size: Size, c: Change, x: u32, m: usize) -> bool
-    requires placed { Placed l.now size.rows size.hours m }
-    requires r_value { r.now ≡ row size.hours l.now m }
-    ensures { result ≡ counts_by size.hours l.now (confirmed_after size.hours l.now c.entry) x m }
-{
-    if !confirmed_after(r[STATUS], c, m) {
-        return false;
+    // The row counts: it is of the path, or a type 5 that is related to such a row.
+    #[tactic(auto, unfolding(rules::proofs::After::counts_by), using(rules::proofs::Types::derived_type))]
+    pub(crate) fn counts(self, r: Reservation, x: u32) -> bool
+        ensures { let row = r.entry.row in
+            let hours = row.size.hours in
+            result ≡ counts_by hours row.words.now (confirmed_after hours row.words.now self) x row.n }
+    {
+        if !self.is_confirmed(r.row) {
+            return false;
+        }
+        if r.row.word(PATH) == x {
+            return true;
+        }
+        if r.row.word(REQTYPE) != NONFIRM_REDIRECT {
+            return false;
+        }
+        self.is_holder(r.related().row, x)
     }
-    if r[PATH] == x {
-        return true;
-    }
-    if r[REQTYPE] != NONFIRM_REDIRECT {
-        return false;
-    }
-    let above = rules::row_of(Reference(r[RELATED]));
-    is_holder(l, size, c, x, above.0)
 }

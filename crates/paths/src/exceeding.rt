@@ -1,159 +1,218 @@
 // Whether use of a path after an action exceeds what is posted for it.
 ghost use Rattle.std.specs.Prelude.{◌≡◌, true, false, ◌<◌, ◌≤◌, length};
-ghost use Rattle.words.specs.Lists.{noughts, part, within};
-ghost use Rattle.rules.specs.Numbers.{most_hours, most_megawatts};
-ghost use Rattle.rules.specs.Layout.{used, row, span_hours};
+ghost use Rattle.words.specs.Lists.{part, within};
+ghost use Rattle.rules.specs.Numbers.{most_megawatts};
+ghost use Rattle.rules.specs.Layout.{used as used_rows, row, span_hours};
 ghost use Rattle.rules.specs.Megawatts.{in_force};
 ghost use Rattle.rules.specs.Confirming.{short};
 ghost use Rattle.rules.specs.Paths.{posting_at};
 ghost use Rattle.rules.proofs.After.{use_confirming, use_annulling};
 ghost use Rattle.rules.proofs.OverPaths.{exceeds, exceeds_at};
-ghost use Rattle.layout.specs.SoundAt.{SoundAt};
-ghost use Rattle.megawatts.specs.Placed.{Placed};
-ghost use Rattle.paths.specs.Changes.{use_by, Changing};
-ghost use Rattle.paths.specs.Exceeding.{Postings, Path, PostingAt, above, Confirms, Annuls};
+ghost use Rattle.paths.specs.Changes.{use_by};
+ghost use Rattle.paths.specs.Exceeding.{Postings, PostingAt, above, confirmed_rows, Confirms, Annuls};
 ghost use Rattle.paths.specs.Own.{exceeds_own};
 
-use crate::Change;
-use crate::adding::add_rows;
-use layout::class::is_original;
-use layout::numbers::{MOST_HOURS, PATH, RELINQUISH, REQTYPE};
+use crate::adding::Walk;
+use crate::change::{Change, Changed};
+use crate::path::Path;
+use layout::ledger::Ledger;
+use layout::numbers::{MOST_HOURS, RELINQUISH, REQTYPE};
 use layout::profile::Profile;
-use layout::rows::word_at;
+use layout::reservation::Reservation;
 use layout::size::Size;
-use megawatts::reading::{in_force, related_of, span, start_of};
 
-// Where hour h of path x stands in the postings.
-pub fn posting_at(size: Size, x: u32, h: usize) -> usize
-    requires path { Path x }
-    requires h_le_hours { h ≤ size.hours }
-    ensures { PostingAt size.hours x h result }
-{
-    (x as usize - 1) * size.hours + h
+// A sound ledger, and the postings for its hours.
+#[derive(Clone, Copy)]
+pub struct Posted<'a> {
+    pub ledger: Ledger<'a>,
+    pub postings: &'a [u32],
+    ghost postings_value: { Postings ledger.size.hours postings.now },
 }
 
-// The postings of path x, hour by hour.
-pub fn posted(postings: &[u32], size: Size, x: u32) -> &[u32]
-    requires postings { Postings size.hours postings.now }
-    requires path { Path x }
-    ensures { result.now ≡ part postings.now (posting_at size.hours x 0) size.hours }
+// A walk, and the postings that the use is judged by.
+#[derive(Clone, Copy)]
+struct Judged<'a> {
+    walk: Walk<'a>,
+    postings: &'a [u32],
+    ghost postings_value: { Postings walk.ledger.size.hours postings.now },
+}
+
+// Where hour h of a path stands in the postings.
+pub fn posting_at(size: Size, path: Path, h: usize) -> usize
+    requires { h ≤ size.hours }
+    ensures { PostingAt size.hours path.number h result }
 {
-    let from = posting_at(size, x, 0);
+    (path.number as usize - 1) * size.hours + h
+}
+
+// The postings of a path, hour by hour, of postings for a ledger of this size.
+pub fn postings_of(postings: &[u32], size: Size, path: Path) -> &[u32]
+    requires { Postings size.hours postings.now }
+    ensures is { result.now ≡ part postings.now (posting_at size.hours path.number 0) size.hours }
+    ensures long { length result.now ≡ size.hours }
+{
+    let from = posting_at(size, path, 0);
     &postings[from..from + size.hours]
 }
 
-// Use of path x after a change.
-fn exceeds_path(l: &[u32], postings: &[u32], size: Size, c: Change, x: u32) -> bool
-    requires changing { Changing l.now size.rows size.hours c }
-    requires postings { Postings size.hours postings.now }
-    requires path { Path x }
-    ensures { result ≡ exceeds size.hours postings.now (λ y h. use_by size.hours l.now c.entry y h) x }
-{
-    // No heap in the library: memory for the most hours.
-    let mut buffer = [0u32; MOST_HOURS as usize];
-    let sums = &mut buffer[..size.hours];
-    add_rows(sums, l, size, c, x);
-    !words::all_covered(sums, posted(postings, size, x))
+impl<'a> Posted<'a> {
+    // Those of a path.
+    pub fn of_path(self, path: Path) -> &'a [u32]
+        ensures is { let hours = self.entry.ledger.size.hours in
+            result.now ≡ part self.entry.postings.now (posting_at hours path.number 0) hours }
+        ensures long { length result.now ≡ self.entry.ledger.size.hours }
+    {
+        postings_of(self.postings, self.ledger.size, path)
+    }
 }
 
-// The row that row n is related to: an original is related to none.
-fn above(l: &[u32], size: Size, n: usize) -> Option<usize>
-    requires { Placed l.now size.rows size.hours n }
-    ensures { result ≡ above size.hours l.now n }
-{
-    if is_original(word_at(l, size, n, REQTYPE)) {
-        return None;
+impl<'a> Judged<'a> {
+    // Of a path.
+    fn exceeds(self, path: Path) -> bool
+        ensures { let walk = self.entry.walk in
+            let hours = walk.ledger.size.hours in
+            let words = walk.ledger.words.now in
+            result ≡ exceeds hours self.entry.postings.now (λ y h. use_by hours words walk.change y h) path.number }
+    {
+        // No heap in the library: memory for the most hours.
+        let mut buffer = [0u32; MOST_HOURS as usize];
+        let sums = &mut buffer[..self.walk.ledger.size.hours];
+        self.walk.add_rows(sums, path.number);
+        let posted = Posted {
+            ledger: self.walk.ledger,
+            postings: self.postings,
+        };
+        !words::all_covered(sums, posted.of_path(path))
     }
-    Some(related_of(l, size, n))
-}
 
-// Of the path of row n, or of its related row's.
-fn exceeds_at(l: &[u32], postings: &[u32], size: Size, n: usize, c: Change) -> bool
-    requires changing { Changing l.now size.rows size.hours c }
-    requires n_bound { n < used l.now }
-    requires postings { Postings size.hours postings.now }
-    ensures { result ≡ exceeds_at size.hours l.now n postings.now (λ y h. use_by size.hours l.now c.entry y h) }
-{
-    let own = word_at(l, size, n, PATH);
-    if exceeds_path(l, postings, size, c, own) {
-        return true;
-    }
-    match above(l, size, n) {
-        None => false,
-        Some(above) => {
-            let x = word_at(l, size, above, PATH);
-            x != own && exceeds_path(l, postings, size, c, x)
+    // Of the path of row n, or of its related row's.
+    #[tactic(auto, unfolding(rules::proofs::OverPaths::exceeds_at))]
+    fn exceeds_at(self, n: usize) -> bool
+        requires { n < used_rows self.walk.ledger.words.now }
+        ensures { let walk = self.entry.walk in
+            let hours = walk.ledger.size.hours in
+            let words = walk.ledger.words.now in
+            result ≡ exceeds_at hours words n self.entry.postings.now (λ y h. use_by hours words walk.change y h) }
+    {
+        let r = self.walk.ledger.reservation(n);
+        let own = Path::of(r);
+        if self.exceeds(own) {
+            return true;
+        }
+        match r.above() {
+            None => false,
+            Some(above) => {
+                let path = Path::of(above);
+                path.number != own.number && self.exceeds(path)
+            }
         }
     }
 }
 
-// Row n is confirmed with the megawatts mw.
-
-fn confirming<'a>(l: &[u32], size: Size, n: usize, mw: &'a [u32]) -> Change<'a>
-    requires { Placed l.now size.rows size.hours n }
-    ensures { Confirms size.hours l.now n mw.now result }
+// The row that a row is related to, if any.
+fn row_above(r: Reservation) -> Option<usize>
+    ensures { result ≡ above r.entry.row.size.hours r.entry.row.words.now r.entry.row.n }
 {
-    let is_record = word_at(l, size, n, REQTYPE) == RELINQUISH;
-    let more = if is_record {
-        above(l, size, related_of(l, size, n))
-    } else {
-        None
-    };
+    Some(r.above()?.row.n)
+}
+
+// The rows that change as a row is confirmed.
+#[tactic(auto, using(rules::proofs::Types::derived_type, layout::proofs::Placed::redirect_three))]
+fn confirmed(r: Reservation) -> Changed
+    ensures { let row = r.entry.row in result ≡ confirmed_rows row.size.hours row.words.now row.n }
+{
+    if r.row.word(REQTYPE) != RELINQUISH {
+        return Changed::Confirmed {
+            row: r.row.n,
+            above: row_above(r),
+        };
+    }
+    let redirect = r.related();
+    Changed::Relinquished {
+        record: r.row.n,
+        redirect: redirect.row.n,
+        above: redirect.related().row.n,
+    }
+}
+
+// With the megawatts mw.
+fn confirming<'a>(r: Reservation, mw: &'a [u32]) -> Change<'a>
+    ensures { let row = r.entry.row in Confirms row.size.hours row.words.now row.n mw.now result }
+{
     Change {
-        row: Some(n),
-        confirmed: true,
-        holds: !is_record,
-        less: above(l, size, n),
-        more,
-        start: start_of(l, size, n),
+        rows: confirmed(r),
+        start: r.row.start(),
         mw,
     }
 }
 
-pub fn exceeds_confirming(l: &[u32], postings: &[u32], size: Size, n: usize, mw: &[u32]) -> bool
-    requires sound_at { SoundAt l.now size.rows size.hours }
-    requires n_bound { n < used l.now }
-    requires mw_len { (length mw.now ≡ span_hours (row size.hours l.now n)) × (within most_megawatts mw.now ≡ true) }
-    requires mw_value { short size.hours l.now n mw.now ≡ false }
-    requires postings { Postings size.hours postings.now }
-    ensures { result ≡ exceeds_at size.hours l.now n postings.now (λ x h. use_confirming size.hours l.now n mw.now x h) }
+// A row is annulled: its granted goes back.
+fn annulling<'a>(r: Reservation<'a>) -> Change<'a>
+    ensures { let row = r.entry.row in Annuls row.size.hours row.words.now row.n result }
 {
-    exceeds_at(l, postings, size, n, confirming(l, size, n, mw))
-}
-
-// With the profile in force, read in place.
-pub fn exceeds_confirming_own(l: &[u32], postings: &[u32], size: Size, n: usize) -> bool
-    requires sound_at { SoundAt l.now size.rows size.hours }
-    requires n_bound { n < used l.now }
-    requires n_value { short size.hours l.now n (in_force size.hours (row size.hours l.now n)) ≡ false }
-    requires postings { Postings size.hours postings.now }
-    ensures { result ≡ exceeds_own size.hours l.now n postings.now }
-{
-    exceeds_confirming(l, postings, size, n, in_force(l, size, n))
-}
-
-// Row n is annulled: its granted goes back.
-
-fn annulling(l: &[u32], size: Size, n: usize) -> Change
-    requires { Placed l.now size.rows size.hours n }
-    ensures { Annuls size.hours l.now n result }
-{
+    let above = row_above(r);
     Change {
-        row: Some(n),
-        confirmed: false,
-        holds: false,
-        less: None,
-        more: above(l, size, n),
-        start: start_of(l, size, n),
-        mw: span(l, size, n, Profile::Granted),
+        rows: Changed::Annulled {
+            row: r.row.n,
+            above,
+        },
+        start: r.row.start(),
+        mw: r.span(Profile::Granted),
     }
 }
 
-pub fn exceeds_annulling(l: &[u32], postings: &[u32], size: Size, n: usize) -> bool
-    requires sound_at { SoundAt l.now size.rows size.hours }
-    requires n_bound { n < used l.now }
-    requires postings { Postings size.hours postings.now }
-    ensures { result ≡ exceeds_at size.hours l.now n postings.now (λ x h. use_annulling size.hours l.now n x h) }
+// Once row n is confirmed with the megawatts mw.
+pub fn exceeds_confirming(posted: Posted, n: usize, mw: &[u32]) -> bool
+    requires n_bound { n < used_rows posted.ledger.words.now }
+    requires mw_len { let own = row posted.ledger.size.hours posted.ledger.words.now n in
+        (length mw.now ≡ span_hours own) × (within most_megawatts mw.now ≡ true) }
+    requires mw_value { short posted.ledger.size.hours posted.ledger.words.now n mw.now ≡ false }
+    ensures { let hours = posted.entry.ledger.size.hours in
+        let words = posted.entry.ledger.words.now in
+        let postings = posted.entry.postings.now in
+        result ≡ exceeds_at hours words n postings (λ x h. use_confirming hours words n mw.now x h) }
 {
-    exceeds_at(l, postings, size, n, annulling(l, size, n))
+    let change = confirming(posted.ledger.reservation(n), mw);
+    let walk = Walk {
+        ledger: posted.ledger,
+        change,
+    };
+    Judged {
+        walk,
+        postings: posted.postings,
+    }
+    .exceeds_at(n)
+}
+
+// With the profile in force, read in place.
+#[tactic(auto, using(crate::proofs::Changed::force_most))]
+pub fn exceeds_confirming_own(posted: Posted, n: usize) -> bool
+    requires n_bound { n < used_rows posted.ledger.words.now }
+    requires n_value { let hours = posted.ledger.size.hours in
+        let words = posted.ledger.words.now in
+        short hours words n (in_force hours (row hours words n)) ≡ false }
+    ensures { let ledger = posted.entry.ledger in
+        result ≡ exceeds_own ledger.size.hours ledger.words.now n posted.entry.postings.now }
+{
+    exceeds_confirming(posted, n, posted.ledger.reservation(n).in_force())
+}
+
+// Once row n is annulled.
+pub fn exceeds_annulling(posted: Posted, n: usize) -> bool
+    requires { n < used_rows posted.ledger.words.now }
+    ensures { let hours = posted.entry.ledger.size.hours in
+        let words = posted.entry.ledger.words.now in
+        let postings = posted.entry.postings.now in
+        result ≡ exceeds_at hours words n postings (λ x h. use_annulling hours words n x h) }
+{
+    let change = annulling(posted.ledger.reservation(n));
+    let walk = Walk {
+        ledger: posted.ledger,
+        change,
+    };
+    Judged {
+        walk,
+        postings: posted.postings,
+    }
+    .exceeds_at(n)
 }

@@ -2,19 +2,8 @@
 #![tactic(auto)]
 
 pub mod adding;
+pub mod change;
 pub mod counting;
 pub mod exceeding;
+pub mod path;
 pub mod posting;
-
-// What an action would change: row is CONFIRMED or not, and then holds the megawatts or 0; the row less has given them,
-// the row more has been given them. The megawatts stand from hour start on.
-#[derive(Clone, Copy)]
-pub struct Change<'a> {
-    pub row: Option<usize>,
-    pub confirmed: bool,
-    pub holds: bool,
-    pub less: Option<usize>,
-    pub more: Option<usize>,
-    pub start: usize,
-    pub mw: &'a [u32],
-}

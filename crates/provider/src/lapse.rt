@@ -1,20 +1,21 @@
 // 6 Lapse.
 ghost use Rattle.std.specs.Prelude.{◌≡◌, false, [], ◌∷◌};
 ghost use Rattle.rules.specs.Pick.{◌among◌};
-ghost use Rattle.rules.specs.Layout.{row};
 ghost use Rattle.rules.specs.Megawatts.{carries_over};
 ghost use Rattle.rules.specs.Lapse.{not_lapsing, too_early, lapse_number, lapse_after};
 ghost use Rattle.rules.specs.Refusals.{number_of};
 ghost use Rattle.layout.specs.SoundAt.{SoundAt};
-ghost use Rattle.megawatts.specs.Placed.{Placed};
+ghost use Rattle.layout.specs.Rows.{own};
 
-use crate::named::{is_approved, row_named};
-use checks::checks::{no_reference, not_provider, waits_at};
-use confirming::confirming::{check_confirm_own, confirm_own, over_confirming_own};
+use checks::checks::{named, not_provider, waits_at};
+use confirming::confirming::{check_confirm_marked, confirm_own, over_confirming_own};
+use layout::ledger::Ledger;
 use layout::numbers::{
     ACCEPTED, CLOCK, COUNTEROFFER, CR_ACCEPTED, CR_COUNTEROFFER, LIMIT, RETRACTED, STATUS,
 };
-use layout::rows::{set_word, word_at};
+use layout::reservation::Reservation;
+use layout::row::Row;
+use layout::rows::set_word;
 use layout::size::Size;
 use rules::{Action, Refusal};
 
@@ -25,68 +26,70 @@ fn lapses(s: u32) -> bool
     matches!(s, COUNTEROFFER | CR_COUNTEROFFER | ACCEPTED | CR_ACCEPTED)
 }
 
-// Row n is not at 6, 7, 10, 11, or preconfirmed at 10.
-#[tactic(auto, using(crate::proofs::Laws::own_row), unfolding(rules::specs::Lapse::not_lapsing))]
-fn not_lapsing(l: &[u32], size: Size, n: usize) -> bool
-    requires { Placed l.now size.rows size.hours n }
-    ensures { result ≡ not_lapsing (row size.hours l.now n) }
+// It is not at 6, 7, 10, 11, or preconfirmed at 10.
+#[tactic(auto, unfolding(rules::specs::Lapse::not_lapsing))]
+fn not_lapsing(r: Reservation) -> bool
+    ensures { result ≡ not_lapsing (own r.entry.row) }
 {
-    !lapses(word_at(l, size, n, STATUS)) || waits_at(l, size, n, ACCEPTED)
+    !lapses(r.row.word(STATUS)) || waits_at(r.row, ACCEPTED)
 }
 
-#[tactic(auto, using(crate::proofs::Laws::own_row), unfolding(rules::specs::Lapse::too_early))]
-fn too_early(l: &[u32], size: Size, n: usize) -> bool
-    requires { Placed l.now size.rows size.hours n }
-    ensures { result ≡ too_early l.now (row size.hours l.now n) }
+// Now is before its limit.
+#[tactic(auto, using(layout::proofs::Placed::head_placed), unfolding(rules::specs::Lapse::too_early))]
+fn too_early(r: Reservation) -> bool
+    ensures { result ≡ too_early r.entry.row.words.now (own r.entry.row) }
 {
-    l[CLOCK] < word_at(l, size, n, LIMIT)
+    r.row.words[CLOCK] < r.row.word(LIMIT)
 }
 
-#[tactic(auto, using(crate::proofs::Laws::chosen), unfolding(rules::specs::Lapse::lapse_number, rules::specs::Checks::waiting_number))]
-pub fn check_lapse(l: &[u32], size: Size, a: Action) -> Result<(), Refusal>
-    requires { SoundAt l.now size.rows size.hours }
-    ensures { number_of result ≡ lapse_number size.hours l.now a }
+#[tactic(auto, using(crate::proofs::Laws::chosen), unfolding(rules::specs::Lapse::lapse_number, rules::specs::Checks::no_reference, rules::specs::Checks::waiting_number))]
+pub fn check_lapse(ledger: Ledger, a: Action) -> Result<(), Refusal>
+    ensures { number_of result ≡ lapse_number ledger.entry.size.hours ledger.entry.words.now a }
 {
-    if no_reference(l, a) {
+    let Some(r) = ledger.find(a.reference) else {
         return Err(Refusal::NoReference);
-    }
-    if not_provider(l, a) {
+    };
+    if not_provider(ledger.words, a) {
         return Err(Refusal::WrongParty);
     }
-    let n = row_named(l, size, a);
-    if not_lapsing(l, size, n) {
+    if not_lapsing(r) {
         return Err(Refusal::WrongMove);
     }
-    if too_early(l, size, n) {
+    if too_early(r) {
         return Err(Refusal::TooEarly);
     }
-    if waits_at(l, size, n, CR_ACCEPTED) {
-        return check_confirm_own(l, size, n, is_approved(l, size, n));
+    if waits_at(r.row, CR_ACCEPTED) {
+        return check_confirm_marked(r);
     }
     Ok(())
 }
 
 // Whether a lapse would carry a word over 100,000.
 #[tactic(auto, using(crate::proofs::Laws::lapsing))]
-pub fn lapse_over(l: &[u32], size: Size, a: Action) -> bool
-    requires sound_at { SoundAt l.now size.rows size.hours }
-    requires a_value { lapse_number size.hours l.now a ≡ 0 }
-    ensures { result ≡ carries_over size.hours (lapse_after size.hours l.now a) }
+pub fn lapse_over(ledger: Ledger, a: Action) -> bool
+    requires { lapse_number ledger.size.hours ledger.words.now a ≡ 0 }
+    ensures { let hours = ledger.entry.size.hours in
+        result ≡ carries_over hours (lapse_after hours ledger.entry.words.now a) }
 {
-    let n = row_named(l, size, a);
-    waits_at(l, size, n, CR_ACCEPTED) && over_confirming_own(l, size, n)
+    let r = ledger.reservation(named(a).0);
+    waits_at(r.row, CR_ACCEPTED) && over_confirming_own(r)
 }
 
 // A preconfirmed 11 confirms; the others go to 17.
-#[tactic(auto, using(crate::proofs::Laws::lapsing))]
+#[tactic(auto, using(crate::proofs::Laws::lapsing), unfolding(rules::specs::Lapse::lapse_after))]
 pub fn lapse(l: &mut [u32], size: Size, a: Action)
     requires sound_at { SoundAt l.old size.rows size.hours }
     requires a_value { lapse_number size.hours l.old a ≡ 0 }
     requires a_value_2 { carries_over size.hours (lapse_after size.hours l.old a) ≡ false }
     ensures { l.new ≡ lapse_after size.hours l.old a }
 {
-    let n = row_named(l, size, a);
-    if waits_at(l, size, n, CR_ACCEPTED) {
+    let n = named(a).0;
+    let row = Row {
+        words: &l[..],
+        size,
+        n,
+    };
+    if waits_at(row, CR_ACCEPTED) {
         confirm_own(l, size, n);
     } else {
         set_word(l, size, n, STATUS, RETRACTED);

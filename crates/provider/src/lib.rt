@@ -5,7 +5,6 @@
 pub mod approve;
 pub mod clock;
 pub mod lapse;
-pub mod named;
 pub mod post;
 pub mod reduce;
 pub mod waiting;

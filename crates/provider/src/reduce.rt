@@ -1,70 +1,69 @@
 // 5 Reduce.
 ghost use Rattle.std.specs.Prelude.{◌≡◌, false};
-ghost use Rattle.rules.specs.Layout.{row, span_hours};
+ghost use Rattle.rules.specs.Layout.{span_hours};
 ghost use Rattle.rules.specs.Megawatts.{carries_over};
 ghost use Rattle.rules.specs.Checks.{bad_profile};
 ghost use Rattle.rules.specs.Reduce.{not_reducible, reduces_too_much, reduce_number, reduce_after};
 ghost use Rattle.rules.specs.Refusals.{number_of};
 ghost use Rattle.layout.specs.SoundAt.{SoundAt};
-ghost use Rattle.megawatts.specs.Placed.{Placed};
+ghost use Rattle.layout.specs.Rows.{own};
 
-use crate::named::row_named;
-use checks::checks::{bad_profile, no_reference, not_provider, profile, span_hours};
+use checks::checks::{named, not_provider};
+use checks::request::Request;
+use layout::ledger::Ledger;
 use layout::numbers::{RELINQUISH, REQTYPE};
-use layout::rows::word_at;
+use layout::profile::Profile;
+use layout::reservation::Reservation;
 use layout::size::Size;
-use megawatts::giving::covers_at;
 use megawatts::moving::over_reducing;
-use megawatts::reading::{is_confirmed, start_of};
-use rules::{Action, Refusal};
+use rules::Refusal;
 
-// Row n is not CONFIRMED, or of type 8.
-#[tactic(auto, using(crate::proofs::Laws::own_row), unfolding(rules::specs::Reduce::not_reducible))]
-fn not_reducible(l: &[u32], size: Size, n: usize) -> bool
-    requires { Placed l.now size.rows size.hours n }
-    ensures { result ≡ not_reducible (row size.hours l.now n) }
+// It is not CONFIRMED, or of type 8.
+#[tactic(auto, unfolding(rules::specs::Reduce::not_reducible))]
+fn not_reducible(r: Reservation) -> bool
+    ensures { result ≡ not_reducible (own r.entry.row) }
 {
-    !is_confirmed(l, size, n) || word_at(l, size, n, REQTYPE) == RELINQUISH
+    !r.row.is_confirmed() || r.row.word(REQTYPE) == RELINQUISH
 }
 
-// The action's profile is none for the span of row n.
-#[tactic(auto, using(crate::proofs::Laws::own_row))]
-fn bad_for_span(l: &[u32], words: &[u32], size: Size, n: usize, a: Action) -> bool
-    requires { Placed l.now size.rows size.hours n }
-    ensures { result ≡ bad_profile words.now a (span_hours (row size.hours l.now n)) }
+// The profile asked for is none for its span.
+fn bad_for_span(r: Reservation, request: Request) -> bool
+    ensures { let asked = request.entry in
+        result ≡ bad_profile asked.words.now asked.action (span_hours (own r.entry.row)) }
 {
-    bad_profile(words, a, span_hours(l, size, n))
+    request.bad_profile(r.count())
 }
 
-// Row n has less available than the profile in an hour.
+// It has less available than the profile in an hour.
 #[tactic(auto, using(crate::proofs::Laws::too_much), unfolding(rules::specs::Reduce::reduces_too_much))]
-fn reduces_too_much(l: &[u32], words: &[u32], size: Size, n: usize, a: Action) -> bool
-    requires placed { Placed l.now size.rows size.hours n }
-    requires n_value { bad_profile words.now a (span_hours (row size.hours l.now n)) ≡ false }
-    ensures { result ≡ reduces_too_much size.hours words.now a (row size.hours l.now n) }
+fn reduces_too_much(r: Reservation, request: Request) -> bool
+    requires { bad_profile request.words.now request.action (span_hours (own r.row)) ≡ false }
+    ensures { let row = r.entry.row in
+        result ≡ reduces_too_much row.size.hours request.entry.words.now request.entry.action (own row) }
 {
-    !covers_at(l, size, n, start_of(l, size, n), profile(words, a))
+    !r.row
+        .covers(Profile::Available, r.row.start(), request.profile())
 }
 
-#[tactic(auto, using(crate::proofs::Laws::chosen), unfolding(rules::specs::Reduce::reduce_number))]
-pub fn check_reduce(l: &[u32], words: &[u32], size: Size, a: Action) -> Result<(), Refusal>
-    requires { SoundAt l.now size.rows size.hours }
-    ensures { number_of result ≡ reduce_number size.hours l.now words.now a }
+#[tactic(auto, using(crate::proofs::Laws::chosen), unfolding(rules::specs::Reduce::reduce_number, rules::specs::Checks::no_reference))]
+pub fn check_reduce(ledger: Ledger, request: Request) -> Result<(), Refusal>
+    ensures { let l = ledger.entry in
+        number_of result ≡ reduce_number l.size.hours l.words.now request.entry.words.now request.entry.action }
 {
-    if no_reference(l, a) {
+    let a = request.action;
+    let Some(r) = ledger.find(a.reference) else {
         return Err(Refusal::NoReference);
-    }
-    if not_provider(l, a) {
+    };
+    if not_provider(ledger.words, a) {
         return Err(Refusal::WrongParty);
     }
-    let n = row_named(l, size, a);
-    if not_reducible(l, size, n) {
+    if not_reducible(r) {
         return Err(Refusal::WrongMove);
     }
-    if bad_for_span(l, words, size, n, a) {
+    if bad_for_span(r, request) {
         return Err(Refusal::WrongProfile);
     }
-    if reduces_too_much(l, words, size, n, a) {
+    if reduces_too_much(r, request) {
         return Err(Refusal::Short);
     }
     Ok(())
@@ -72,21 +71,23 @@ pub fn check_reduce(l: &[u32], words: &[u32], size: Size, a: Action) -> Result<(
 
 // The reduction would carry a reduced word over 100,000.
 #[tactic(auto, using(crate::proofs::Laws::reducing))]
-pub fn reduce_over(l: &[u32], words: &[u32], size: Size, a: Action) -> bool
-    requires sound_at { SoundAt l.now size.rows size.hours }
-    requires a_value { reduce_number size.hours l.now words.now a ≡ 0 }
-    ensures { result ≡ carries_over size.hours (reduce_after size.hours l.now words.now a) }
+pub fn reduce_over(ledger: Ledger, request: Request) -> bool
+    requires { reduce_number ledger.size.hours ledger.words.now request.words.now request.action ≡ 0 }
+    ensures { let hours = ledger.entry.size.hours in
+        let asked = request.entry in
+        result ≡ carries_over hours (reduce_after hours ledger.entry.words.now asked.words.now asked.action) }
 {
-    over_reducing(l, size, row_named(l, size, a), profile(words, a))
+    let r = ledger.reservation(named(request.action).0);
+    over_reducing(r, request.profile())
 }
 
 #[tactic(auto, using(crate::proofs::Laws::reducing), unfolding(rules::specs::Reduce::reduce_after))]
-pub fn reduce(l: &mut [u32], words: &[u32], size: Size, a: Action)
+pub fn reduce(l: &mut [u32], size: Size, request: Request)
     requires sound_at { SoundAt l.old size.rows size.hours }
-    requires a_value { reduce_number size.hours l.old words.now a ≡ 0 }
-    requires a_value_2 { carries_over size.hours (reduce_after size.hours l.old words.now a) ≡ false }
-    ensures { l.new ≡ reduce_after size.hours l.old words.now a }
+    requires a_value { reduce_number size.hours l.old request.words.now request.action ≡ 0 }
+    requires a_value_2 { let w = request.words.now in
+        carries_over size.hours (reduce_after size.hours l.old w request.action) ≡ false }
+    ensures { l.new ≡ reduce_after size.hours l.old request.entry.words.now request.entry.action }
 {
-    let n = row_named(l, size, a);
-    megawatts::moving::reduce(l, size, n, profile(words, a));
+    megawatts::moving::reduce(l, size, named(request.action).0, request.profile());
 }

@@ -1,25 +1,22 @@
 // Number 22 of the two actions that confirm a waiting row: approve, lapse.
 ghost use Rattle.std.specs.Prelude.{◌≡◌, ◌&&◌};
 ghost use Rattle.rules.specs.Checks.{named as row_named, named_row, waits_at};
-ghost use Rattle.layout.specs.SoundAt.{SoundAt};
-ghost use Rattle.paths.specs.Exceeding.{Postings};
 ghost use Rattle.paths.specs.Own.{exceeds_own};
 ghost use Rattle.provider.specs.Waiting.{Waiting};
 
-use crate::named::row_named;
-use checks::checks::waits_at;
-use layout::size::Size;
-use paths::exceeding::exceeds_confirming_own;
+use checks::checks::{named, waits_at};
+use paths::exceeding::{Posted, exceeds_confirming_own};
 use rules::Action;
 
 // Whether the row named, which confirms if it is preconfirmed at this status, would use more of a path than is posted.
 #[tactic(auto, using(crate::proofs::Laws::waiting))]
-pub fn waiting_uses(l: &[u32], postings: &[u32], size: Size, a: Action, status: u32) -> bool
-    requires sound_at { SoundAt l.now size.rows size.hours }
-    requires postings { Postings size.hours postings.now }
-    requires waiting { Waiting size.hours l.now a status }
-    ensures { result ≡ (waits_at status (named_row size.hours l.now a) && exceeds_own size.hours l.now (row_named a) postings.now) }
+pub fn waiting_uses(posted: Posted, a: Action, status: u32) -> bool
+    requires { Waiting posted.ledger.size.hours posted.ledger.words.now a status }
+    ensures { let hours = posted.entry.ledger.size.hours in
+        let words = posted.entry.ledger.words.now in
+        let postings = posted.entry.postings.now in
+        result ≡ (waits_at status (named_row hours words a) && exceeds_own hours words (row_named a) postings) }
 {
-    let n = row_named(l, size, a);
-    waits_at(l, size, n, status) && exceeds_confirming_own(l, postings, size, n)
+    let n = named(a).0;
+    waits_at(posted.ledger.reservation(n).row, status) && exceeds_confirming_own(posted, n)
 }

@@ -4,15 +4,14 @@ use mathlib.Core.Bool.{Bool, true, false, ◌&&◌}
 use mathlib.Core.List.{List, []}
 use Prim.Native.Nat.{ℕ, ◌+◌, ◌*◌, ◌≤◌}
 use native.Mathlib.Omega.{arith}
-use borrow.Author.Tests.{leb-true}
-use lib.Dec.{leb, lit<}
+use lib.Dec.{lit<}
 use lib.ListN.{length, get_or, take}
 use native.Mathlib.Nat.{mul-le-mul_right}
 use Rattle.words.specs.Lists.{within, total}
-use Rattle.words.proofs.Laws.{and_left, and_right, within_all, total_most, part_at}
+use Rattle.words.proofs.Laws.{within_all, total_most, part_at}
 use Rattle.rules.specs.Pick.{pick}
-use Rattle.rules.specs.Numbers.{head_words, most_hours, most_megawatts, granted_part}
-use Rattle.rules.specs.Layout.{rows, hours, used, row_of, row, start, span_hours, hour_at, issued, bid, span, granted}
+use Rattle.rules.specs.Numbers.{most_hours, most_megawatts, granted_part}
+use Rattle.rules.specs.Layout.{hours, row_of, row, start, span_hours, hour_at, issued, bid, span, granted}
 use Rattle.rules.specs.Sound.{sound}
 use Rattle.rules.specs.Moves.{is_confirmed}
 use Rattle.rules.specs.Megawatts.{in_force}
@@ -20,24 +19,8 @@ use Rattle.rules.specs.ReadOut.{shown, cents, charge_number, charge}
 use Rattle.rules.specs.Refusals.{refusal_number}
 use Rattle.rules.specs.declared.refusal.Refusal.{Refusal}
 use Rattle.rules.proofs.Refused.{is_refused}
-use Rattle.rules.proofs.Rows.{row_least}
-use Rattle.rules.proofs.SoundFacts.{sound_facts}
-use Rattle.rules.proofs.Formed.{formed}
-use Rattle.megawatts.specs.Placed.{Placed}
-use Rattle.megawatts.proofs.Laws.{own_words, own_hours, sized, own_length, span_length}
-
--- ---- the head of a sound ledger, and the row of an issued reference
-pub head_read : (l : List ℕ) → sound l ≡ true → head_words ≤ length l
-head_read l s = omega (arith, (sound_facts s).head.long, row_least (hours l) (rows l))
-
-pub issued_row : (l : List ℕ) (r : ℕ) → issued l r ≡ true → (1 ≤ r) × (r ≤ used l)
-unfolding issued
-issued_row l r e = (leb-true 1 r (and_left (leb 1 r) (leb r (used l)) e), leb-true r (used l) (and_right (leb 1 r) (leb r (used l)) e))
-
-pub placed_row : (l : List ℕ) (r : ℕ) {R H n : ℕ} → sound l ≡ true → issued l r ≡ true → R ≡ rows l → H ≡ hours l → n ≡ row_of r → Placed l R H n
-placed_row l r {R} {H} {n} s i er eh en =
-    let b = issued_row l r i in
-    record { formed = formed (sound_facts s); rows = er; hours = eh; row = omega (arith, b.0, b.1, en) }
+use Rattle.layout.specs.Placed.{Placed}
+use Rattle.layout.proofs.Placed.{own_words, own_hours, sized, own_length, span_length}
 
 -- ---- the profile in force
 pub shown_none : (l : List ℕ) (r : ℕ) → (sound l && issued l r) ≡ false → take 0 l ≡ shown l r
@@ -50,10 +33,10 @@ unsound_none l r e = ap (λ (b : Bool). b && issued l r) e
 pub unissued_none : (l : List ℕ) (r : ℕ) → sound l ≡ true → issued l r ≡ false → (sound l && issued l r) ≡ false
 unissued_none l r s e = ap (λ (b : Bool). b && issued l r) s ∙ e
 
-pub shown_some : (l : List ℕ) (r : ℕ) {H n : ℕ} → sound l ≡ true → issued l r ≡ true → H ≡ hours l → n ≡ row_of r → in_force H (row H l n) ≡ shown l r
+pub shown_some : (l : List ℕ) (r : ℕ) {H : ℕ} {w : List ℕ} → sound l ≡ true → issued l r ≡ true → H ≡ hours l → w ≡ row (hours l) l (row_of r) → in_force H w ≡ shown l r
 unfolding shown
-shown_some l r {H} {n} s i eh en =
-    let e : in_force H (row H l n) ≡ in_force (hours l) (row (hours l) l (row_of r)) = cc in
+shown_some l r {H} {w} s i eh ew =
+    let e : in_force H w ≡ in_force (hours l) (row (hours l) l (row_of r)) = cc in
     e ∙ sym (ap (λ (b : Bool). pick b (in_force (hours l) (row (hours l) l (row_of r))) []) (ap (λ (b : Bool). b && issued l r) s ∙ i))
 
 -- ---- no such row
@@ -70,19 +53,19 @@ pub charge_refused : (l : List ℕ) (r : ℕ) (e : Refusal) → refusal_number e
 unfolding charge
 charge_refused l r e q = (q, simp (is_refused e q))
 
-pub charge_unconfirmed : (l : List ℕ) (r : ℕ) {H n : ℕ} → sound l ≡ true → issued l r ≡ true → H ≡ hours l → n ≡ row_of r → is_confirmed (row H l n) ≡ false → (11 ≡ (charge l r).number) × (0 ≡ (charge l r).amount)
-unfolding charge charge_number
-charge_unconfirmed l r {H} {n} s i eh en c =
-    let d : is_confirmed (row (hours l) l (row_of r)) ≡ false = cc in
-    simp (s, i, d) (refl, refl)
+module _ (l : List ℕ) (r : ℕ) {H : ℕ} {w : List ℕ} (s : sound l ≡ true) (i : issued l r ≡ true) (eh : H ≡ hours l) (ew : w ≡ row (hours l) l (row_of r)) where
+  pub charge_unconfirmed : is_confirmed w ≡ false → (11 ≡ (charge l r).number) × (0 ≡ (charge l r).amount)
+  unfolding charge charge_number
+  charge_unconfirmed c =
+      let d : is_confirmed (row (hours l) l (row_of r)) ≡ false = cc in
+      simp (s, i, d) (refl, refl)
 
-pub charge_is : (l : List ℕ) (r : ℕ) {H n : ℕ} → sound l ≡ true → issued l r ≡ true → H ≡ hours l → n ≡ row_of r → is_confirmed (row H l n) ≡ true
-    → (0 ≡ (charge l r).number) × (cents (total (granted H (row H l n))) (bid (row H l n)) ≡ (charge l r).amount)
-unfolding charge charge_number
-charge_is l r {H} {n} s i eh en c =
-    let d : is_confirmed (row (hours l) l (row_of r)) ≡ true = cc in
-    let f : cents (total (granted H (row H l n))) (bid (row H l n)) ≡ cents (total (granted (hours l) (row (hours l) l (row_of r)))) (bid (row (hours l) l (row_of r))) = cc in
-    simp (s, i, d) (refl, f)
+  pub charge_is : is_confirmed w ≡ true → (0 ≡ (charge l r).number) × (cents (total (granted H w)) (bid w) ≡ (charge l r).amount)
+  unfolding charge charge_number
+  charge_is c =
+      let d : is_confirmed (row (hours l) l (row_of r)) ≡ true = cc in
+      let f : cents (total (granted H w)) (bid w) ≡ cents (total (granted (hours l) (row (hours l) l (row_of r)))) (bid (row (hours l) l (row_of r))) = cc in
+      simp (s, i, d) (refl, f)
 
 -- MW-hours granted of a row
 granted_within : {l : List ℕ} {R H n : ℕ} → Placed l R H n → within most_megawatts (granted H (row H l n)) ≡ true

@@ -1,23 +1,18 @@
 // The row of a reference of a sound ledger.
 ghost use Rattle.readout.specs.Found.{Finds};
 
-use crate::Found;
-use checks::checks::is_issued;
-use layout::sound::{size_of, sound};
-use rules::{Reference, Refusal};
+use layout::ledger::Ledger;
+use layout::reservation::Reservation;
+use rules::Refusal;
 
-pub fn find(l: &[u32], reference: u32) -> Result<Found, Refusal>
+pub fn find(l: &[u32], reference: u32) -> Result<Reservation<'_>, Refusal>
     ensures { Finds l.now reference result }
 {
-    if !sound(l) {
+    let Some(ledger) = Ledger::of(l) else {
         return Err(Refusal::Unsound);
-    }
-    if !is_issued(l, reference) {
+    };
+    let Some(found) = ledger.find(reference) else {
         return Err(Refusal::NoReference);
-    }
-    let n = rules::row_of(Reference(reference));
-    Ok(Found {
-        size: size_of(l),
-        n: n.0,
-    })
+    };
+    Ok(found)
 }

@@ -6,25 +6,16 @@ mod finding;
 ghost use Rattle.std.specs.Prelude.{◌≡◌, ◌*◌, ◌≤◌};
 ghost use Rattle.words.specs.Lists.{total};
 ghost use Rattle.rules.specs.Numbers.{most_hours, most_megawatts, most_price};
-ghost use Rattle.rules.specs.Layout.{row, bid, granted};
+ghost use Rattle.rules.specs.Layout.{bid, granted};
 ghost use Rattle.rules.specs.ReadOut.{shown, cents as cents_of, charge as charge_of};
 ghost use Rattle.rules.specs.Refusals.{number_of, value_of};
-ghost use Rattle.megawatts.specs.Placed.{Placed};
+ghost use Rattle.layout.specs.Rows.{own};
 
 use finding::find;
 use layout::numbers::BID;
 use layout::profile::Profile;
-use layout::rows::word_at;
-use layout::size::Size;
-use megawatts::reading::{hours_total, in_force, is_confirmed};
+use layout::reservation::Reservation;
 use rules::Refusal;
-
-// Where a row stands.
-#[derive(Clone, Copy)]
-pub struct Found {
-    size: Size,
-    n: usize,
-}
 
 // Hours of a day, and half of them.
 const DAY: u64 = 24;
@@ -37,7 +28,7 @@ pub fn profile_in_force(l: &[u32], reference: u32) -> &[u32]
     ensures { result.now ≡ shown l.now reference }
 {
     match find(l, reference) {
-        Ok(row) => in_force(l, row.size, row.n),
+        Ok(found) => found.in_force(),
         Err(_) => &l[..0],
     }
 }
@@ -51,12 +42,10 @@ fn cents(energy: u64, price: u32) -> u64
     (energy * price as u64 + HALF_DAY) / DAY
 }
 
-fn cents_of(l: &[u32], size: Size, n: usize) -> u64
-    requires { Placed l.now size.rows size.hours n }
-    ensures { result ≡ cents_of (total (granted size.hours (row size.hours l.now n))) (bid (row size.hours l.now n)) }
+fn cents_of(r: Reservation) -> u64
+    ensures { let row = r.entry.row in result ≡ cents_of (total (granted row.size.hours (own row))) (bid (own row)) }
 {
-    let energy = hours_total(l, size, n, Profile::Granted);
-    cents(energy, word_at(l, size, n, BID))
+    cents(r.total(Profile::Granted), r.row.word(BID))
 }
 
 // Charge of a CONFIRMED row, in cents.
@@ -64,9 +53,9 @@ pub fn charge(l: &[u32], reference: u32) -> Result<u64, Refusal>
     ensures number { number_of result ≡ (charge_of l.now reference).number }
     ensures amount { value_of result ≡ (charge_of l.now reference).amount }
 {
-    let row = find(l, reference)?;
-    if !is_confirmed(l, row.size, row.n) {
+    let found = find(l, reference)?;
+    if !found.row.is_confirmed() {
         return Err(Refusal::WrongMove);
     }
-    Ok(cents_of(l, row.size, row.n))
+    Ok(cents_of(found))
 }

@@ -107,10 +107,6 @@ module _ (l ps : List ℕ) (r : ℕ) where
     unfolding not_seller
     is_seller = ap (λ (b : Bool). not b && not (eqb (seller q) (provider l) && (eqb ANNULLED ANNULLED && eqb (reqtype q) 3))) (eq-eqb (seller q) (seller q) refl)
 
-    is_there : no_reference l a ≡ false
-    unfolding no_reference
-    is_there = ap not i
-
     -- a CONFIRMED row
     module _ (sure : is_confirmed q ≡ true) where
       confirmed_status_lem : status q ≡ CONFIRMED

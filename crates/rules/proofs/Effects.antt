@@ -234,16 +234,6 @@ module _ {H s : ℕ} {mw r : List ℕ} (m : Room H s mw r) where
   unfolding emptied
   emptied_length = simp length-set (grant_length (record { long = clear_length H s (length mw) r m.long m.fits {p = available_part} (lit< tt); fits = m.fits }))
 
-  -- by the type: a relinquish record is emptied
-  pub confirmed_length : (b : Bool) → length (pick b (emptied H s mw r) (held H s mw r)) ≡ row_size H
-  confirmed_length true = emptied_length
-  confirmed_length false = held_length
-
--- a write that is made only where the test holds
-when_length : (H : ℕ) (b : Bool) (q r : List ℕ) → length q ≡ row_size H → length r ≡ row_size H → length (pick b q r) ≡ row_size H
-when_length H true q r e f = e
-when_length H false q r e f = f
-
 -- a row whose span lies in the hours
 module _ {H : ℕ} {r : List ℕ} (s : Spanned H r) where
   pub displaced_length : length (displaced_row H r) ≡ row_size H

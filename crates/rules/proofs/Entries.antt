@@ -451,8 +451,3 @@ module _ {H : ℕ} {l w : List ℕ} {a : Action} (passed : SubmitPassed H l w a)
 -- a row whose words are sound has its span in the hours
 pub words_spanned : {H : ℕ} {r : List ℕ} → SoundWords H r → length r ≡ row_size H → Spanned H r
 words_spanned f long = record { long = long; starts = omega (arith, f.starts); stops = f.stops }
-
--- the row that a confirmation leaves is one of the two
-pub agrees_either : {H : ℕ} {x y : List ℕ} {e : Entry} → (b : Bool) → Agrees H x e × Agrees H y e → Agrees H (pick b y x) e
-agrees_either true A = A.1
-agrees_either false A = A.0

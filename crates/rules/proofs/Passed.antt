@@ -5,7 +5,7 @@ use mathlib.Core.Logic.{◌≢◌, ◌⊎◌, ⊎_elim, inl, inr}
 use mathlib.Core.List.{List, [], ◌∷◌}
 use Prim.Native.Nat.{ℕ, suc, ◌+◌, ◌-◌, ◌≤◌, ◌<◌}
 use native.Mathlib.Omega.{arith}
-use lib.Dec.{eqb, leb, ltb}
+use lib.Dec.{eqb, leb}
 use lib.ListN.{length}
 use borrow.Author.Tests.{leb-true, ltb-true, ltb-false, leb-false, eqb-true, eqb-false, eq-eqb, ne_eqb, not-true, not-false}
 use Rattle.words.specs.Lists.{within, zeros, covered, equal, every}
@@ -110,17 +110,6 @@ profile_passed w a n e =
     let f = or_none _ _ e in
     let p = words_passed w a n f.0 in
     record { fits = p.fits; counted = p.counted; most = p.most; some = f.1 }
-
--- the checks of a profile in one chain, as code makes them
-or_chain : (b c d e : Bool) → (b || (c || (d || e))) ≡ ((b || (c || d)) || e)
-or_chain true c d e = refl
-or_chain false true d e = refl
-or_chain false false d e = refl
-
-pub profile_chain : (w : List ℕ) (a : Action) (n : ℕ)
-    → (ltb (length w) (a.offset + a.length) || (not (eqb a.length n) || (not (within most_megawatts (profile w a)) || zeros (profile w a)))) ≡ bad_profile w a n
-unfolding bad_profile bad_words
-profile_chain w a n = or_chain (ltb (length w) (a.offset + a.length)) (not (eqb a.length n)) (not (within most_megawatts (profile w a))) (zeros (profile w a))
 
 pub profile_length : {w : List ℕ} {a : Action} {n : ℕ} → ProfilePassed w a n → length (profile w a) ≡ n
 unfolding profile

@@ -1,14 +1,13 @@
 -- A row in use of a formed ledger: what its words and its relation say of it.
-use mathlib.Core.Path.{◌≡◌, refl, sym, ap, subst, ◌∙◌}
+use mathlib.Core.Path.{◌≡◌, sym, ap, subst, ◌∙◌}
 use mathlib.Core.Logic.{◌⊎◌, ⊎_elim, inl, inr}
-use mathlib.Core.Bool.{Bool, true, false}
+use mathlib.Core.Bool.{true}
 use mathlib.Core.List.{List}
 use Prim.Native.Nat.{ℕ, suc, ◌+◌, ◌-◌, ◌≤◌, ◌<◌}
 use native.Mathlib.Omega.{arith}
 use lib.ListN.{length, get_or}
 use Rattle.words.specs.Lists.{equal}
 use Rattle.words.proofs.Laws.{lt_or_le, equal_at}
-use Rattle.rules.specs.Pick.{pick}
 use Rattle.rules.specs.Numbers.{profiles, RELINQUISH}
 use Rattle.rules.specs.Layout.{rows, hours, used, row, row_size, reqtype, related, start, stop, related_row, span_hours, span, standing, Sized}
 use Rattle.rules.proofs.Rows.{row_length}
@@ -67,10 +66,6 @@ placed {l} {n} f lt = record {
 -- the same where the hours are known by another name
 pub placed_in : {l : List ℕ} {H n : ℕ} → Formed l → hours l ≡ H → n < used l → Placed (rows l) H l n
 placed_in {l} {H} {n} f e lt = subst (λ H. Placed (rows l) H l n) e (placed f lt)
-
-pick_length : (b : Bool) (x y : List ℕ) {n : ℕ} → (b ≡ true → length x ≡ n) → (b ≡ false → length y ≡ n) → length (pick b x y) ≡ n
-pick_length true x y p q = p refl
-pick_length false x y p q = q refl
 
 module _ {R H : ℕ} {l : List ℕ} {n : ℕ} (o : Placed R H l n) where
   pub own_long : length (row H l n) ≡ row_size H

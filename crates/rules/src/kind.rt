@@ -2,6 +2,9 @@
 ghost use Rattle.std.specs.Prelude.{◌≡◌};
 ghost use Rattle.rules.specs.Kinds.{kind_code, Names};
 
+use std::error::Error;
+use std::fmt;
+
 #[derive(Clone, Copy, Debug, PartialEq, Eq)]
 pub enum Kind {
     Submit = 1,
@@ -18,11 +21,19 @@ pub enum Kind {
 #[derive(Clone, Copy, Debug, PartialEq, Eq)]
 pub struct UnknownKind(pub u32);
 
-impl Kind {
-    pub fn code(self) -> u32
-        ensures { result ≡ kind_code self }
-    {
-        self as u32
+impl fmt::Display for UnknownKind {
+    fn fmt<W: fmt::Write>(&self, f: &mut fmt::Formatter<W>) -> fmt::Result {
+        write!(f, "no kind of action has number {}", self.0)
+    }
+}
+
+impl Error for UnknownKind {}
+
+impl From<Kind> for u32 {
+    ghost from_gives = { λ kind code. code ≡ kind_code kind };
+
+    fn from(kind: Kind) -> u32 {
+        kind as u32
     }
 }
 

@@ -1,7 +1,10 @@
 // Why a call or an action is not carried out.
 ghost use Rattle.std.specs.Prelude.{◌≡◌};
 ghost use Rattle.rules.specs.Refusals.{refusal_number, number_of};
+ghost use Rattle.rules.specs.declared.refusal.Refusal.TheVariants.{OutOfRange};
 
+use crate::kind::UnknownKind;
+use std::error::Error;
 use std::fmt;
 
 #[derive(Clone, Copy, Debug, PartialEq, Eq)]
@@ -29,11 +32,20 @@ pub enum Refusal {
     TermOutOfRange = 25,
 }
 
-impl Refusal {
-    pub fn number(self) -> u32
-        ensures { result ≡ refusal_number self }
-    {
-        self as u32
+impl From<Refusal> for u32 {
+    ghost from_gives = { λ refusal number. number ≡ refusal_number refusal };
+
+    fn from(refusal: Refusal) -> u32 {
+        refusal as u32
+    }
+}
+
+// A number that no kind has is out of range.
+impl From<UnknownKind> for Refusal {
+    ghost from_gives = { λ _ refusal. refusal ≡ OutOfRange };
+
+    fn from(_kind: UnknownKind) -> Self {
+        Self::OutOfRange
     }
 }
 
@@ -65,12 +77,14 @@ impl fmt::Display for Refusal {
     }
 }
 
+impl Error for Refusal {}
+
 // The number of an outcome: 0 where it is carried out.
 pub fn number_of<A: Drop>(outcome: Result<A, Refusal>) -> u32
     ensures { result ≡ number_of outcome }
 {
     match outcome {
         Ok(_) => 0,
-        Err(refusal) => refusal.number(),
+        Err(refusal) => u32::from(refusal),
     }
 }

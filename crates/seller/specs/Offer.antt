@@ -5,11 +5,12 @@ use Rattle.rules.specs.Numbers.{most_price, DISPLACED}
 use Rattle.rules.specs.Layout.{window, clock, row, on_row}
 use Rattle.rules.specs.Megawatts.{in_force}
 use Rattle.rules.specs.Confirming.{short}
+use Rattle.rules.specs.Checks.{named}
 use Rattle.rules.specs.SellerStatus.{granted_after, goes_on, annuls_confirmed, offered}
 use Rattle.rules.specs.declared.Action.{Action}
 use Rattle.rules.proofs.Over.{over_confirming, over_annulling, over_displacing}
-use Rattle.megawatts.specs.Placed.{Placed}
-use Rattle.megawatts.specs.Named.{Named, Suits}
+use Rattle.layout.specs.Placed.{Placed}
+use Rattle.checks.specs.Suits.{Suits}
 
 -- row n is offered with mw granted, or moved otherwise
 unfoldable pub over_offer : ℕ → List ℕ → ℕ → Action → List ℕ → Bool
@@ -30,7 +31,8 @@ pub record Confirms (l : List ℕ) (R H n : ℕ) (mw : List ℕ) : Type 0 where
 
 -- row n may be offered, and confirmed then if it goes on
 pub record Offering (l w : List ℕ) (R H n : ℕ) (a : Action) : Type 0 where
-  pub named : Named l R H a n
+  pub placed : Placed l R H n
+  pub named : n ≡ named a
   pub suits : Suits w a (row H l n)
   pub price : a.price ≤ most_price
   pub confirms : goes_on a (row H l n) ≡ true → Confirms (on_row H n (offered H (clock l + window l) a (granted_after H w a (row H l n))) l) R H n (granted_after H w a (row H l n))

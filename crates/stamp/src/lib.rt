@@ -63,10 +63,8 @@ impl From<UnknownZone> for NotWritten {
 pub fn read_stamp(bytes: &[u8]) -> Result<u32, NotRead>
     ensures { reading_of result ≡ reading bytes.now }
 {
-    if bytes.len() != STAMP_LENGTH {
-        return Err(NotRead);
-    }
-    let moment = Moment::read(bytes).ok_or(NotRead)?;
+    let stamp = bytes.as_array().ok_or(NotRead)?;
+    let moment = Moment::read(stamp).ok_or(NotRead)?;
     let ut = moment.second();
     if ALL_SECONDS <= ut {
         return Err(NotRead);
@@ -95,9 +93,7 @@ pub fn write_stamp(bytes: &mut [u8], second: u32, zone: u32) -> Result<(), NotWr
     }
     let place = Zone::try_from(zone)?;
     let local = second.checked_sub(place.offset()).ok_or(NotWritten)?;
-    if bytes.len() != STAMP_LENGTH {
-        return Err(NotWritten);
-    }
-    bytes.copy_from_slice(&Moment::at(local, place).to_bytes());
+    let stamp = bytes.as_mut_array().ok_or(NotWritten)?;
+    *stamp = Moment::at(local, place).to_bytes();
     Ok(())
 }

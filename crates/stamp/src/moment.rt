@@ -4,7 +4,7 @@ ghost use Rattle.stamp.specs.Zones.{code};
 
 use crate::calendar::{self, MONTHS_OF_YEAR};
 use crate::zone::Zone;
-use crate::{DAY, HOUR, MINUTE, numbers};
+use crate::{DAY, HOUR, MINUTE, STAMP_LENGTH, numbers};
 
 // The first two digits of the years.
 const CENTURY: u32 = 20;
@@ -31,24 +31,23 @@ pub struct Moment {
 }
 
 impl Moment {
-    ghost use Rattle.std.specs.Prelude.{◌≡◌, ◌<◌, length};
-    ghost use Rattle.stamp.specs.Stamp.{fields_at, bytes_of, second_of, all_seconds, stamp_length};
+    ghost use Rattle.std.specs.Prelude.{◌≡◌, ◌<◌};
+    ghost use Rattle.stamp.specs.Stamp.{fields_at, bytes_of, second_of, all_seconds};
     ghost use Rattle.stamp.specs.Moments.{fields, MomentRead};
 
     // The moment that sixteen bytes spell.
     #[tactic(auto, using(crate::proofs::Months::days_most, crate::proofs::Ranges::range_cases), unfolding(crate::specs::Stamp::fields_of))]
-    pub fn read(bytes: &[u8]) -> Option<Moment>
-        requires { length bytes.now ≡ stamp_length }
+    pub fn read(bytes: &[u8; STAMP_LENGTH]) -> Option<Moment>
         ensures { MomentRead bytes.now result }
     {
-        numbers::number_in(bytes, 0, CENTURY, CENTURY)?;
-        let year = numbers::number_in(bytes, 2, 0, LAST_YEAR)?;
-        let month = numbers::number_in(bytes, 4, 1, MONTHS_OF_YEAR)?;
+        numbers::number_in([bytes[0], bytes[1]], CENTURY, CENTURY)?;
+        let year = numbers::number_in([bytes[2], bytes[3]], 0, LAST_YEAR)?;
+        let month = numbers::number_in([bytes[4], bytes[5]], 1, MONTHS_OF_YEAR)?;
         let last_day = calendar::days_in(MONTHS_OF_YEAR * year + (month - 1));
-        let day = numbers::number_in(bytes, 6, 1, last_day)?;
-        let hour = numbers::number_in(bytes, 8, 0, LAST_HOUR)?;
-        let minute = numbers::number_in(bytes, 10, 0, LAST_MINUTE)?;
-        let second = numbers::number_in(bytes, 12, 0, LAST_SECOND)?;
+        let day = numbers::number_in([bytes[6], bytes[7]], 1, last_day)?;
+        let hour = numbers::number_in([bytes[8], bytes[9]], 0, LAST_HOUR)?;
+        let minute = numbers::number_in([bytes[10], bytes[11]], 0, LAST_MINUTE)?;
+        let second = numbers::number_in([bytes[12], bytes[13]], 0, LAST_SECOND)?;
         let zone = Zone::with_letters(bytes[14], bytes[15])?;
         Some(Moment {
             year,
@@ -93,7 +92,7 @@ impl Moment {
 
     // The sixteen bytes.
     #[tactic(auto, using(crate::proofs::Months::days_most), unfolding(crate::specs::Stamp::bytes_of))]
-    pub fn to_bytes(self) -> [u8; 16]
+    pub fn to_bytes(self) -> [u8; STAMP_LENGTH]
         ensures { result ≡ bytes_of (fields self) }
     {
         let [year1, year2] = numbers::digits_of(CENTURY);

@@ -1,5 +1,5 @@
 // Numbers of two digits.
-ghost use Rattle.std.specs.Prelude.{◌≡◌, ◌+◌, ◌<◌, length};
+ghost use Rattle.std.specs.Prelude.{◌≡◌, ◌<◌};
 ghost use Rattle.stamp.specs.Stamp.{two_digits, number_at, digits_of, no_number};
 ghost use Rattle.stamp.specs.Steps.{number_or_none, Within};
 
@@ -13,13 +13,13 @@ fn two_digits(tens: u8, units: u8) -> Option<u32>
     Some(10 * tens + units)
 }
 
-// The number of the two digits at a place, if it is from the least on and not above the most.
-pub fn number_in(bytes: &[u8], at: usize, least: u32, most: u32) -> Option<u32>
-    requires within { at + 1 < length bytes.now }
-    requires of_two_digits { most < no_number }
-    ensures { Within least most (number_at bytes.now at) result }
+// The number of two digits, if it is from the least on and not above the most.
+pub fn number_in(digits: [u8; 2], least: u32, most: u32) -> Option<u32>
+    requires { most < no_number }
+    ensures { Within least most (number_at digits 0) result }
 {
-    let number = two_digits(bytes[at], bytes[at + 1])?;
+    let [tens, units] = digits;
+    let number = two_digits(tens, units)?;
     (least..=most).contains(&number).then_some(number)
 }
 

@@ -1,6 +1,6 @@
--- What a sound ledger and an accepted submission have, and the checks of a submission by what was read.
+-- What a sound ledger and an accepted submission have.
 use mathlib.Core.Path.{◌≡◌, sym, ap, subst, ◌∙◌}
-use mathlib.Core.Bool.{true, false}
+use mathlib.Core.Bool.{false}
 use mathlib.Core.List.{List}
 use Prim.Native.Nat.{ℕ, ◌+◌, ◌≤◌, ◌<◌}
 use native.Mathlib.Omega.{arith}
@@ -8,28 +8,20 @@ use lib.ListN.{length, get_or}
 use lib.Seq.{sets, sets-eq}
 use Rattle.words.specs.Lists.{splice}
 use Rattle.rules.specs.Numbers.{row_words, requested_part}
-use Rattle.rules.specs.Layout.{hours, used, issued, row_of, row, set_hours}
+use Rattle.rules.specs.Layout.{hours, used, row, set_hours}
 use Rattle.rules.specs.Megawatts.{carries_over}
 use Rattle.rules.specs.Checks.{profile}
 use Rattle.rules.specs.Submit.{submit_number, new_words, new_row, submit_after}
 use Rattle.rules.specs.declared.Action.{Action}
-use Rattle.rules.proofs.Picks.{chain, choice}
-use Rattle.rules.proofs.Rows.{row_length}
-use Rattle.rules.proofs.SoundFacts.{range}
 use Rattle.rules.proofs.Passed.{profile_length, submit_passed}
 use Rattle.rules.proofs.Over.{over_submitting}
 use Rattle.layout.specs.SoundAt.{SoundAt}
+use Rattle.layout.proofs.Lent.{row_lent_length, row_back}
 use Rattle.layout.proofs.SoundAt.{sized_at, head_fits}
 
--- ---- a sound ledger
-module _ {l : List ℕ} {R H : ℕ} (s : SoundAt l R H) where
-  -- an issued reference names a row; past the rows there is nothing
-  pub issued_in : (r : ℕ) → issued l r ≡ true → row_of r < R
-  unfolding issued
-  issued_in r e = omega (arith, range 1 r (used l) e, s.sound.head.used, s.rows)
-
-  pub none_past : (n : ℕ) → R ≤ n → (k : ℕ) → get_or (row H l n) k 0 ≡ 0
-  none_past n le k = subst (λ (x : ℕ). get_or (row x l n) k 0 ≡ 0) (sym s.hours) (s.sound.unused n (omega (arith, le, s.sound.head.used, s.rows)) k)
+-- past the rows of a sound ledger there is nothing
+pub none_past : {l : List ℕ} {R H : ℕ} → SoundAt l R H → (n : ℕ) → R ≤ n → (k : ℕ) → get_or (row H l n) k 0 ≡ 0
+none_past {l} s n le k = subst (λ (x : ℕ). get_or (row x l n) k 0 ≡ 0) (sym s.hours) (s.sound.unused n (omega (arith, le, s.sound.head.used, s.rows)) k)
 
 -- ---- an accepted submission has a row, a profile in its slice, and room for it in the row
 module _ {l : List ℕ} {R H : ℕ} (s : SoundAt l R H) (w : List ℕ) (a : Action) (e : submit_number H l w a ≡ 0) where
@@ -63,9 +55,5 @@ pub row_written : (H : ℕ) (w : List ℕ) (a : Action) (r : List ℕ) {v u : Li
 unfolding new_row
 row_written H w a r e h = h ∙ ap (λ (x : List ℕ). set_hours H requested_part a.start x (splice r 0 (new_words a))) e
 
--- for the checks: of the related row, and of the whole submission; and for what an accepted one writes
-pub ruleset related = (chain, sized_at, head_fits, issued_in, row_length)
-
-pub ruleset submitting = (choice, head_fits)
-
-pub ruleset accepted = (head_fits, row_free, profile_in)
+-- for what an accepted one writes
+pub ruleset accepted = (head_fits, sized_at, row_free, profile_in, profile_fits, row_lent_length, row_back, row_written)

@@ -7,7 +7,7 @@ ghost use Rattle.rules.specs.Submit.{submit_number, new_words, submit_after};
 ghost use Rattle.rules.proofs.Seen.{Room};
 ghost use Rattle.layout.specs.SoundAt.{SoundAt};
 
-use checks::checks::profile;
+use checks::request::Request;
 use layout::numbers::{
     BID, CUSTOMER, FLAGS, LIMIT, OFFER, PATH, QUEUED, RELATED, REQTYPE, SELLER, START, STATUS,
     STOP, USED,
@@ -46,21 +46,21 @@ fn write_row(r: &mut [u32], size: Size, a: Action, profile: &[u32])
     set_hours(r, size, Profile::Requested, a.start as usize, profile);
 }
 
-// The first unused row is written, and counted; in place, since a function that returns a `&mut` part of a slice gets no
-// proof. No submission carries a word over 100,000 (rules.proofs.Over.over_submitting), so there is no check of it.
-#[tactic(auto, using(crate::proofs::Laws::accepted))]
-pub fn submit(l: &mut [u32], words: &[u32], size: Size, a: Action)
+// The first unused row is written, and counted; in place, since a function that returns a `&mut` part of a slice gets
+// no proof. No submission carries a word over 100,000 (rules.proofs.Over.over_submitting), so there is no check of it.
+#[tactic(auto, using(crate::proofs::Laws::accepted), unfolding(rules::specs::Submit::submit_after))]
+pub fn submit(l: &mut [u32], size: Size, request: Request)
     requires sound_at { SoundAt l.old size.rows size.hours }
-    requires a_value { submit_number size.hours l.old words.now a ≡ 0 }
-    ensures { l.new ≡ submit_after size.hours l.old words.now a }
+    requires accepted { submit_number size.hours l.old request.words.now request.action ≡ 0 }
+    ensures { l.new ≡ submit_after size.hours l.old request.entry.words.now request.entry.action }
 {
     let used = l[USED];
     let at = size.row_at(used as usize);
     write_row(
         &mut l[at..at + size.row_words()],
         size,
-        a,
-        profile(words, a),
+        request.action,
+        request.profile(),
     );
     l[USED] = used + 1;
 }

@@ -17,8 +17,8 @@ use Rattle.rules.proofs.OverPaths.{exceeds}
 use Rattle.rules.proofs.Unwound.{adding, none, gone_by, gone_at, gone_more, use_unwound, unwound_start}
 use Rattle.rules.proofs.UnwoundUse.{use_now}
 use Rattle.layout.specs.SoundAt.{SoundAt}
-use Rattle.paths.specs.Changes.{Summed}
-use Rattle.paths.specs.Exceeding.{Postings, Path}
+use Rattle.words.specs.Sums.{Summed}
+use Rattle.paths.specs.Exceeding.{Postings, KnownPath}
 use Rattle.paths.proofs.Posted.{posted_each}
 use Rattle.unwinding.specs.Order.{all_movable, asks, carries, carries_all}
 use Rattle.unwinding.specs.Marks.{marked, Marks, Going}
@@ -36,7 +36,7 @@ carries_none H l ps refs x e =
     sym (all_below_lem _ (length refs) (λ k lt. sym (or_stops _ (over k) (all_at _ (length refs) k e lt))))
 
 -- ---- sums against what is posted for path x
-pub within_posted : {H : ℕ} {ps : List ℕ} {x : ℕ} → Postings H ps → Path x → {own : List ℕ}
+pub within_posted : {H : ℕ} {ps : List ℕ} {x : ℕ} → Postings H ps → KnownPath x → {own : List ℕ}
     → own ≡ part ps (posting_at H x 0) H → (sums : List ℕ) → length sums ≡ H
     → covered sums own ≡ all_below H (λ h. leb (word_at sums h) (posted_in H ps x h))
 unfolding covered
@@ -71,24 +71,24 @@ marks_adding {refs} {marks} {k} {n} M e =
 -- it is in use, and can go
 module _ (c : Carrying) (k : ℕ) (lt : k < length c.refs.now) where
   module _ {n : ℕ} (e : n ≡ row_of (word_at c.refs.now k)) where
-    goes_at : Going c.ledger.size.hours c.ledger.words.now (gone_at c.refs.now k) n
+    goes_at : Going c.rows.ledger.size.hours c.rows.ledger.words.now (gone_at c.refs.now k) n
     goes_at =
-        let l : List ℕ = c.ledger.words.now in
-        let s : SoundAt l c.ledger.size.rows c.ledger.size.hours = c.ledger.sound_at in
-        subst (λ (j : ℕ). Going c.ledger.size.hours l (gone_at c.refs.now k) j) (sym e)
+        let l : List ℕ = c.rows.ledger.words.now in
+        let s : SoundAt l c.rows.ledger.size.rows c.rows.ledger.size.hours = c.rows.ledger.sound_at in
+        subst (λ (j : ℕ). Going c.rows.ledger.size.hours l (gone_at c.refs.now k) j) (sym e)
         (subst (λ (j : ℕ). Going j l (gone_at c.refs.now k) (row_of (word_at c.refs.now k))) (sym s.hours)
         (goes s.sound c.refs.now (subst (λ (j : ℕ). all_movable j l c.refs.now ≡ true) s.hours c.movable) k lt))
 
-    pub row_in : n < c.ledger.used
-    row_in = omega (arith, goes_at.row, c.ledger.used_value)
+    pub row_in : n < c.rows.used
+    row_in = omega (arith, goes_at.row, c.rows.used_value)
 
     pub goes_marked : {marks : List Bool} → Marks c.refs.now marks k
-        → Going c.ledger.size.hours c.ledger.words.now (marked marks) n
+        → Going c.rows.ledger.size.hours c.rows.ledger.words.now (marked marks) n
     goes_marked M =
-        subst (λ (g : ℕ → Bool). Going c.ledger.size.hours c.ledger.words.now g n) (sym (marks_gone M)) goes_at
+        subst (λ (g : ℕ → Bool). Going c.rows.ledger.size.hours c.rows.ledger.words.now g n) (sym (marks_gone M)) goes_at
 
   -- the row of a reference of the list
-  pub row_listed : {r : ℕ} → r ≡ get_or c.refs.now k r → row_of r < c.ledger.used
+  pub row_listed : {r : ℕ} → r ≡ get_or c.refs.now k r → row_of r < c.rows.used
   row_listed {r} e = row_in (ap row_of (e ∙ get_or_default c.refs.now k r 0 lt))
 
 -- ---- use of path x before the first turn

@@ -13,8 +13,7 @@ use Rattle.rules.specs.Moves.{is_confirmed}
 use Rattle.rules.proofs.Types.{derived_least}
 use Rattle.rules.proofs.Unwound.{gives}
 use Rattle.layout.specs.SoundAt.{SoundAt}
-use Rattle.opening.proofs.Added.{in_rows}
-use Rattle.unwinding.specs.declared.ledger.Ledger.{Ledger}
+use Rattle.unwinding.specs.declared.rows.Rows.{Rows}
 
 module _ {l : List ℕ} {R H : ℕ} (s : SoundAt l R H) {n : ℕ} (lt : n < used l) where
   -- it is an earlier row
@@ -39,8 +38,5 @@ module _ {l : List ℕ} {R H : ℕ} (s : SoundAt l R H) {n : ℕ} (lt : n < used
   redirect_above t = derived_above (ap original t)
 
 -- a row that is below the count is in use, and in the ledger
-pub in_use : (l : Ledger) {n : ℕ} → n < l.used → n < used l.words.now
+pub in_use : (l : Rows) {n : ℕ} → n < l.used → n < used l.ledger.words.now
 in_use l lt = omega (arith, lt, l.used_value)
-
-pub in_ledger : (l : Ledger) {n : ℕ} → n < l.used → n < l.size.rows
-in_ledger l lt = in_rows l.sound_at (in_use l lt)

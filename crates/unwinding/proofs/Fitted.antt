@@ -14,30 +14,30 @@ use Rattle.rules.specs.Layout.{used, row, hour_at, hours_of}
 use Rattle.rules.specs.Moves.{is_confirmed}
 use Rattle.rules.proofs.Unwound.{given_back, fits_in}
 use Rattle.layout.specs.SoundAt.{SoundAt}
-use Rattle.paths.specs.Changes.{Adds, Summed}
+use Rattle.words.specs.Sums.{Adds, Summed}
 use Rattle.opening.specs.Shares.{most_sum, Sums}
 use Rattle.opening.proofs.Added.{hours_at, hours_long, word_most, sums_after}
 use Rattle.unwinding.specs.Order.{all_fit}
 use Rattle.unwinding.specs.Marks.{marked, Marks}
-use Rattle.unwinding.specs.declared.ledger.Ledger.{Ledger}
+use Rattle.unwinding.specs.declared.rows.Rows.{Rows}
 use Rattle.unwinding.proofs.Counted.{in_use}
 use Rattle.unwinding.proofs.Marked.{marks_gone}
 use Rattle.unwinding.proofs.GivenBack.{back_sums}
 
 -- ---- granted of row n, as it is lent, against sums
-module _ (l : Ledger) {n : ℕ} (lt : n < l.used) {own : List ℕ}
-    (is : own ≡ hours_of l.size.hours granted_part 0 l.size.hours (row l.size.hours l.words.now n))
-    (sums : List ℕ) (long : length sums ≡ l.size.hours) where
+module _ (l : Rows) {n : ℕ} (lt : n < l.used) {own : List ℕ}
+    (is : own ≡ hours_of l.ledger.size.hours granted_part 0 l.ledger.size.hours (row l.ledger.size.hours l.ledger.words.now n))
+    (sums : List ℕ) (long : length sums ≡ l.ledger.size.hours) where
   pub granted_long : length own ≡ length sums
-  granted_long = ap length is ∙ hours_long l.sound_at n granted_part (in_use l lt) (lit< tt) ∙ sym long
+  granted_long = ap length is ∙ hours_long l.ledger.sound_at n granted_part (in_use l lt) (lit< tt) ∙ sym long
 
-  pub granted_lent : let H = l.size.hours in all_below (length sums) (λ h. leb (word_at sums h) (most_megawatts + word_at own h))
-      ≡ all_below H (λ h. leb (word_at sums h) (most_megawatts + word_at (row H l.words.now n) (hour_at H granted_part h)))
+  pub granted_lent : let H = l.ledger.size.hours in all_below (length sums) (λ h. leb (word_at sums h) (most_megawatts + word_at own h))
+      ≡ all_below H (λ h. leb (word_at sums h) (most_megawatts + word_at (row H l.ledger.words.now n) (hour_at H granted_part h)))
   granted_lent =
       ap (λ (k : ℕ). all_below k (λ h. leb (word_at sums h) (most_megawatts + word_at own h))) long
-      ∙ all_cong _ _ l.size.hours (λ h hlt.
+      ∙ all_cong _ _ l.ledger.size.hours (λ h hlt.
       ap (λ (v : ℕ). leb (word_at sums h) (most_megawatts + v))
-      (ap (λ (v : List ℕ). word_at v h) is ∙ hours_at l.sound_at n granted_part (in_use l lt) (lit< tt) h hlt))
+      (ap (λ (v : List ℕ). word_at v h) is ∙ hours_at l.ledger.sound_at n granted_part (in_use l lt) (lit< tt) h hlt))
 
 module _ {l : List ℕ} {R H : ℕ} (s : SoundAt l R H) where
   -- ---- what came back to row p

@@ -22,30 +22,30 @@ use Rattle.layout.specs.SoundAt.{SoundAt}
 use Rattle.layout.specs.Profiles.{part_of}
 use Rattle.layout.specs.declared.profile.Profile.{Profile}
 use Rattle.layout.proofs.Profiles.{part_below}
-use Rattle.paths.specs.Changes.{Takes, Summed}
+use Rattle.words.specs.Sums.{Takes, Summed}
 use Rattle.opening.specs.Shares.{most_sum, Sums}
 use Rattle.opening.proofs.Added.{few, hours_at, hours_long}
 use Rattle.unwinding.specs.Order.{freed, freed_below, freed_use, returned}
 use Rattle.unwinding.specs.Marks.{marked, Going}
 use Rattle.unwinding.specs.Uses.{Holding, Lacking, Freeing, Shifted}
-use Rattle.unwinding.specs.declared.ledger.Ledger.{Ledger}
+use Rattle.unwinding.specs.declared.rows.Rows.{Rows}
 use Rattle.unwinding.proofs.Counted.{in_use}
 use Rattle.unwinding.proofs.Steps.{use_next, lost_most, use_open, use_most}
 
 -- ---- a profile taken off
-module _ (l : Ledger) (n : ℕ) (p : Profile) (lt : n < l.used) {sums : List ℕ}
-    (o : Holding l.size.hours (λ h. word_at (row l.size.hours l.words.now n) (hour_at l.size.hours (part_of p) h)) sums) where
+module _ (l : Rows) (n : ℕ) (p : Profile) (lt : n < l.used) {sums : List ℕ}
+    (o : Holding l.ledger.size.hours (λ h. word_at (row l.ledger.size.hours l.ledger.words.now n) (hour_at l.ledger.size.hours (part_of p) h)) sums) where
   abbrev H : ℕ
-  H = l.size.hours
+  H = l.ledger.size.hours
 
   abbrev own : List ℕ
-  own = hours_of l.size.hours (part_of p) 0 l.size.hours (row l.size.hours l.words.now n)
+  own = hours_of l.ledger.size.hours (part_of p) 0 l.ledger.size.hours (row l.ledger.size.hours l.ledger.words.now n)
 
   own_long : length own ≡ H
-  own_long = hours_long l.sound_at n (part_of p) (in_use l lt) (part_below p)
+  own_long = hours_long l.ledger.sound_at n (part_of p) (in_use l lt) (part_below p)
 
-  own_at : (h : ℕ) → h < H → word_at own h ≡ word_at (row H l.words.now n) (hour_at H (part_of p) h)
-  own_at = hours_at l.sound_at n (part_of p) (in_use l lt) (part_below p)
+  own_at : (h : ℕ) → h < H → word_at own h ≡ word_at (row H l.ledger.words.now n) (hour_at H (part_of p) h)
+  own_at = hours_at l.ledger.sound_at n (part_of p) (in_use l lt) (part_below p)
 
   pub hours_fit : length own ≡ length sums
   hours_fit = own_long ∙ sym o.long
@@ -59,7 +59,7 @@ module _ (l : Ledger) (n : ℕ) (p : Profile) (lt : n < l.used) {sums : List ℕ
       le-leb (word_at own h) (word_at sums h) (omega (arith, own_at h k, o.enough h k)))
 
   pub hours_taken : {next : List ℕ} → next ≡ zip2 ◌-◌ sums own
-      → Takes (λ h. word_at (row l.size.hours l.words.now n) (hour_at l.size.hours (part_of p) h)) sums next
+      → Takes (λ h. word_at (row l.ledger.size.hours l.ledger.words.now n) (hour_at l.ledger.size.hours (part_of p) h)) sums next
   unfolding zip2
   hours_taken e = record {
     long = ap length e ∙ zip_length ◌-◌ sums own;

@@ -13,7 +13,7 @@ use Rattle.rules.specs.Numbers.{most_rows, most_megawatts, granted_part, availab
 use Rattle.rules.specs.Layout.{used, row, hour_at}
 use Rattle.rules.proofs.Unwound.{gives_to, gave_to, given_back, whole_again}
 use Rattle.layout.specs.SoundAt.{SoundAt}
-use Rattle.paths.specs.Changes.{Adds, Summed}
+use Rattle.words.specs.Sums.{Adds, Summed}
 use Rattle.opening.specs.Shares.{Sums}
 use Rattle.opening.proofs.Added.{few, word_most}
 use Rattle.unwinding.proofs.Steps.{pick_most}

@@ -1,4 +1,3 @@
-pub mod Every
 pub mod Passes
 pub mod Steps
 pub mod Counted

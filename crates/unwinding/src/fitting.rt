@@ -7,15 +7,16 @@ ghost use Rattle.rules.proofs.Unwound.{fits_in};
 ghost use Rattle.unwinding.specs.Order.{all_fit};
 ghost use Rattle.unwinding.specs.Marks.{marked, Marks};
 
-use crate::ledger::Ledger;
 use crate::marks::RowMarks;
 use crate::moving::Moved;
+use crate::rows::Rows;
+use layout::entry::Entry;
 use layout::numbers::{MOST_HOURS, MOST_MEGAWATTS};
 use layout::profile::Profile;
-use opening::sums::add_hours;
+use opening::sums::add_profile;
 
-// Each of the sums is at most 100,000 more than the word of v. The fold goes over all, so that several are tested at a
-// time.
+// Each of the sums is at most 100,000 more than the word of v. A fold over all, as the walks of `words`: one that leaves
+// early tests a word at a time.
 fn within_beyond(sums: &[u32], v: &[u32]) -> bool
     requires { length v.now ≡ length sums.now }
     ensures { result ≡ all_below (length sums.now) (λ h. leb (word_at sums.now h) (most_megawatts + word_at v.now h)) }
@@ -26,13 +27,13 @@ fn within_beyond(sums: &[u32], v: &[u32]) -> bool
     )
 }
 
-impl<'a> Ledger<'a> {
+impl<'a> Rows<'a> {
     // Of granted of row p.
     fn within_granted(self, sums: &[u32], p: usize) -> bool
         requires p_bound { p < self.used }
-        requires sums_len { length sums.now ≡ self.size.hours }
-        ensures { let hours = self.entry.size.hours in
-            let words = self.entry.words.now in
+        requires sums_len { length sums.now ≡ self.ledger.size.hours }
+        ensures { let hours = self.entry.ledger.size.hours in
+            let words = self.entry.ledger.words.now in
             let own = row hours words p in
             result ≡ all_below hours (λ h.
             leb (word_at sums.now h) (most_megawatts + word_at own (hour_at hours granted_part h))) }
@@ -43,26 +44,30 @@ impl<'a> Ledger<'a> {
     // What came back to row p, which is not CONFIRMED any more, is within the bound.
     fn fits(self, marks: &RowMarks, p: usize) -> bool
         requires { p < self.used }
-        ensures { let hours = self.entry.size.hours in
-            let words = self.entry.words.now in
+        ensures { let hours = self.entry.ledger.size.hours in
+            let words = self.entry.ledger.words.now in
             result ≡ all_below hours (λ h. fits_in hours words (marked marks.now) p h) }
     {
         // No heap in the library: memory for the most hours.
         let mut buffer = [0u32; MOST_HOURS as usize];
-        let sums = &mut buffer[..self.size.hours];
+        let sums = &mut buffer[..self.ledger.size.hours];
         self.sum_back(sums, marks, p);
-        add_hours(sums, self.words, self.size, p, Profile::Displaced);
+        let entry = Entry {
+            ledger: self.ledger,
+            n: p,
+        };
+        add_profile(sums, entry, Profile::Displaced);
         if !self.is_confirmed(p) {
             return words::all_within(MOST_MEGAWATTS, sums);
         }
-        add_hours(sums, self.words, self.size, p, Profile::Available);
+        add_profile(sums, entry, Profile::Available);
         self.within_granted(sums, p)
     }
 
     fn fits_late(self, moved: &Moved, p: usize) -> bool
         requires { p < self.used }
-        ensures { let hours = self.entry.size.hours in
-            let words = self.entry.words.now in
+        ensures { let hours = self.entry.ledger.size.hours in
+            let words = self.entry.ledger.words.now in
             result ≡ (not (marked moved.now.late p)
             || all_below hours (λ h. fits_in hours words (marked moved.now.gone) p h)) }
     {
@@ -72,7 +77,7 @@ impl<'a> Ledger<'a> {
     // All rows of the references are marked; the code reads the marks alone.
     pub fn all_fit(self, moved: &Moved, refs: &[u32]) -> bool
         requires { Marks refs.now moved.now.gone (length refs.now) }
-        ensures { result ≡ all_fit self.entry.size.hours self.entry.words.now refs.now (marked moved.now.late) }
+        ensures { result ≡ all_fit self.entry.ledger.size.hours self.entry.ledger.words.now refs.now (marked moved.now.late) }
     {
         (0..self.used).all(|p| self.fits_late(moved, p))
     }

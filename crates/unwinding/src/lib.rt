@@ -4,9 +4,9 @@
 pub mod backs;
 pub mod carrying;
 pub mod fitting;
-pub mod ledger;
 pub mod marks;
 pub mod moving;
+pub mod rows;
 pub mod uses;
 
 ghost use Rattle.std.specs.Prelude.{◌≡◌, true};
@@ -14,23 +14,24 @@ ghost use Rattle.rules.specs.Act.{sound_both};
 ghost use Rattle.rules.specs.Annulments.{annuls_in_order};
 
 use carrying::Carrying;
+use layout::ledger::Ledger;
 use layout::numbers::USED;
 use layout::sound::{size_of, sound_both};
-use ledger::Ledger;
+use rows::Rows;
 
 // Three passes, one after another, on a sound ledger and sound postings.
-fn unwinds(ledger: Ledger, postings: &[u32], refs: &[u32]) -> bool
-    requires { sound_both ledger.words.now postings.now ≡ true }
-    ensures { result ≡ annuls_in_order ledger.entry.words.now postings.now refs.now }
+fn unwinds(rows: Rows, postings: &[u32], refs: &[u32]) -> bool
+    requires { sound_both rows.ledger.words.now postings.now ≡ true }
+    ensures { result ≡ annuls_in_order rows.entry.ledger.words.now postings.now refs.now }
 {
-    let Some(moved) = ledger.all_movable(refs) else {
+    let Some(moved) = rows.all_movable(refs) else {
         return false;
     };
-    if !ledger.all_fit(&moved, refs) {
+    if !rows.all_fit(&moved, refs) {
         return false;
     }
     let carrying = Carrying {
-        ledger,
+        rows,
         postings,
         refs,
     };
@@ -57,7 +58,6 @@ pub fn annuls_in_order(l: &[u32], postings: &[u32], refs: &[u32]) -> bool
     let ledger = Ledger {
         words: l,
         size: size_of(l),
-        used,
     };
-    unwinds(ledger, postings, refs)
+    unwinds(Rows { ledger, used }, postings, refs)
 }

@@ -7,13 +7,13 @@ ghost use Rattle.rules.proofs.Unwound.{adding, whole_again};
 ghost use Rattle.unwinding.specs.Order.{movable as is_movable, all_movable, gives_late};
 ghost use Rattle.unwinding.specs.Marks.{marked, Marks, Late};
 
-use crate::ledger::Ledger;
 use crate::marks::{RowMarks, gives, stays};
-use checks::checks::is_issued;
+use crate::rows::Rows;
 use checks::moves::seller_may_row;
+use layout::entry::Entry;
 use layout::numbers::{ANNULLED, MOST_HOURS};
 use layout::profile::Profile;
-use opening::sums::{add_hours, equals_hours};
+use opening::sums::{add_profile, is_profile};
 use rules::Reference;
 
 // Where every reference can go: the rows that go, and those that are given something back late.
@@ -23,55 +23,61 @@ pub struct Moved {
     pub late: RowMarks,
 }
 
-impl<'a> Ledger<'a> {
+impl<'a> Rows<'a> {
     // 15: row n holds its granted again.
     fn is_whole(self, marks: &RowMarks, n: usize) -> bool
         requires { n < self.used }
-        ensures { result ≡ whole_again self.entry.size.hours self.entry.words.now (marked marks.now) n }
+        ensures { result ≡ whole_again self.entry.ledger.size.hours self.entry.ledger.words.now (marked marks.now) n }
     {
         // No heap in the library: memory for the most hours.
         let mut buffer = [0u32; MOST_HOURS as usize];
-        let sums = &mut buffer[..self.size.hours];
+        let sums = &mut buffer[..self.ledger.size.hours];
         self.sum_back(sums, marks, n);
-        add_hours(sums, self.words, self.size, n, Profile::Available);
-        equals_hours(sums, self.words, self.size, n, Profile::Granted)
+        let entry = Entry {
+            ledger: self.ledger,
+            n,
+        };
+        add_profile(sums, entry, Profile::Available);
+        is_profile(sums, entry, Profile::Granted)
     }
 
-    #[tactic(auto, unfolding(crate::specs::Order::movable))]
+    #[tactic(auto, unfolding(crate::specs::Order::movable, rules::specs::Layout::issued))]
     fn movable(self, marks: &RowMarks, r: u32) -> bool
-        ensures { result ≡ is_movable self.entry.size.hours self.entry.words.now (marked marks.now) r }
+        ensures { result ≡ is_movable self.entry.ledger.size.hours self.entry.ledger.words.now (marked marks.now) r }
     {
-        if !is_issued(self.words, r) {
-            return false;
+        match Reference(r).row(self.used) {
+            None => false,
+            Some(row) => {
+                let n = row.0;
+                !marks.has(n)
+                    && seller_may_row(self.row(n), ANNULLED)
+                    && (!self.is_confirmed(n) || self.is_whole(marks, n))
+            }
         }
-        let n = rules::row_of(Reference(r)).0;
-        !marks.has(n)
-            && seller_may_row(self.words, self.size, n, ANNULLED)
-            && (!self.is_confirmed(n) || self.is_whole(marks, n))
     }
 
     // Row n gives back to a row that is not CONFIRMED any more: that one is marked.
     #[tactic(auto, unfolding(crate::specs::Order::gives_late), using(crate::proofs::Counted::gives_above))]
     fn mark_late(self, late: &mut RowMarks, marks: &RowMarks, n: usize)
         requires { n < self.used }
-        ensures { let hours = self.entry.size.hours in
-            let words = self.entry.words.now in
+        ensures { let hours = self.entry.ledger.size.hours in
+            let words = self.entry.ledger.words.now in
             marked late.new ≡ pick (gives_late hours words (marked marks.now) n)
             (adding (marked late.old) (related_row hours words n))
             (marked late.old) }
     {
-        if !gives(self.words, self.size, n) {
+        if !gives(self.row(n)) {
             return;
         }
         let above = self.related(n);
-        if !stays(self.words, self.size, marks, above) {
+        if !stays(self.row(above), marks) {
             late.add(above);
         }
     }
 
     pub fn all_movable(self, refs: &[u32]) -> Option<Moved>
-        ensures { let hours = self.entry.size.hours in
-            let words = self.entry.words.now in
+        ensures { let hours = self.entry.ledger.size.hours in
+            let words = self.entry.ledger.words.now in
             MatchOption result (all_movable hours words refs.now ≡ false) (λ m.
             (all_movable hours words refs.now ≡ true)
             × Marks refs.now m.gone (length refs.now)

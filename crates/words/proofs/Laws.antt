@@ -1,24 +1,21 @@
 -- Laws of the definitions of `specs/Lists.antt`.
 use mathlib.Core.Path.{◌≡◌, refl, sym, ap, ◌∙◌, subst}
-use mathlib.Core.Bool.{Bool, true, false, ◌&&◌, not, cond, and_assoc, and-true}
+use mathlib.Core.Bool.{Bool, true, false, ◌&&◌, cond, and_assoc, and-true}
 use mathlib.Core.Logic.{◌⊎◌, ⊎_elim, inl, inr}
-use mathlib.Core.List.{List, [], ◌∷◌, ◌++◌, append_assoc, append-nil}
+use mathlib.Core.List.{List, [], ◌∷◌, ◌++◌, append_assoc}
 use Prim.Native.Nat.{ℕ, zero, suc, ◌+◌, ◌-◌, ◌*◌, ◌≤◌, ◌<◌, zero-le}
 use native.Mathlib.Decide.{dec_lt}
 use native.Mathlib.Nat.{suc-mul, add_assoc, not-suc-le-zero, eq-or-lt_of_le, le_of_suc-le-suc}
 use native.Mathlib.Numerals.{add-one}
 use native.Mathlib.Omega.{arith}
 use lib.ListN.{length, get_or, set, replicate, take, drop, length-append, length-take, length-drop, length-set, get_or-append, get_or-eq_default, take-append-drop}
-use lib.Dec.{leb, ltb, eqb}
-use Rattle.std.specs.Option.{unwrap_or}
-use Rattle.std.proofs.Common.{below_none, below_more, Some, None}
-use borrow.Author.Tests.{lt-ltb, le-ltb, leb-true, le-leb, lt-leb, eq-eqb, eqb-true}
-use lib.Seq.{append_snoc, set_split, set_at, drop-cons, get_or_at, get_or-append-add, get_or-take, get_or-drop, ext_get_or, drop-length, length-take-le, drop-drop}
-use Rattle.std.specs.List.{fold, zip, sum, position, position_or_len, copy_within}
-use Rattle.std.proofs.lemmas.List.Sums.{sum_by-cons, prefix_len-le-length}
-use Rattle.std.proofs.lemmas.Slice.Zip.{length-zip}
+use lib.Dec.{leb, eqb}
+use borrow.Author.Tests.{leb-true, le-leb, lt-leb, eq-eqb, eqb-true}
+use lib.Seq.{append_snoc, set_split, set_at, drop-cons, get_or_at, get_or-append-add, get_or-take, get_or-drop, ext_get_or, length-take-le, drop-drop}
+use Rattle.std.specs.List.{fold, zip, sum, copy_within}
+use Rattle.std.proofs.lemmas.List.Sums.{sum_by-cons}
 use Rattle.std.proofs.lemmas.List.{length-replicate, get_or-replicate, take-append-le, drop-append-le, take_at, drop_at}
-use Rattle.words.specs.Lists.{part, splice, build, zip2, all_below, first_below, sum_below, noughts, every, every_pair, covered, equal, roomy, within, zeros, total, first_short}
+use Rattle.words.specs.Lists.{part, splice, build, zip2, all_below, first_below, sum_below, noughts, every, every_pair, covered, equal, roomy, within, zeros, total}
 
 which : (a b : ℕ) → Dec (a < b) → (a < b) ⊎ (b ≤ a)
 which a b (yes p) = inl p
@@ -72,12 +69,7 @@ filled_more d f i h =
     ∙ sym (append_snoc (build i f) (f i) (drop (suc i) d))
     ∙ ap (λ (k : ℕ). filled d f k) (sym (add-one i))
 
-pub filled_all : (d : List ℕ) (f : ℕ → ℕ) (i : ℕ) → length d ≤ i → i ≤ length d → filled d f i ≡ build (length d) f
-filled_all d f i h h' =
-    let e : i ≡ length d = omega arith in
-    ap (λ (k : ℕ). filled d f k) e ∙ ap (λ (r : List ℕ). build (length d) f ++ r) (drop-length d) ∙ append-nil _
-
--- the invariant of a loop that stores f i at i, for i below end, d₀'s length; its start, a turn, its end
+-- the invariant of a loop that stores f i at i, for i below end, d₀'s length; its start, a turn
 pub record Filling (d₀ : List ℕ) (f : ℕ → ℕ) (end : ℕ) (d : List ℕ) (i : ℕ) : Type 0 where
   pub ended : end ≡ length d₀
   pub below : i ≤ end
@@ -96,15 +88,9 @@ filling_turn {d₀} {f} {end} {d} {i} h lt v e =
       is = ap (λ (x : ℕ). set d i x) e ∙ ap (λ (l : List ℕ). set l i (f i)) h.is ∙ filled_more d₀ f i (omega (arith, h.ended));
     }
 
-pub filling_done : {d₀ : List ℕ} {f : ℕ → ℕ} {end : ℕ} {d : List ℕ} {i : ℕ} → Filling d₀ f end d i → end ≤ i → d ≡ build (length d₀) f
-filling_done {d₀} {f} {end} {d} {i} h past = h.is ∙ filled_all d₀ f i (omega (arith, h.ended)) (omega (arith, h.ended, h.below))
-
--- a word that is filled in already; a turn by what is stored
+-- a word that is filled in already
 pub filled_before : (d : List ℕ) (f : ℕ → ℕ) (i k : ℕ) → k < i → get_or (filled d f i) k 0 ≡ f k
 filled_before d f i k lt = get_or-append (build i f) (drop i d) 0 k (subst (λ (x : ℕ). k < x) (sym (build_length i f)) lt) ∙ build_at i f k lt
-
-pub filling_by : {d₀ : List ℕ} {f : ℕ → ℕ} {end : ℕ} {d d' : List ℕ} {i : ℕ} → Filling d₀ f end d i → i < end → (v : ℕ) → v ≡ f i → d' ≡ set d i v → Filling d₀ f end d' (i + 1)
-filling_by {d₀} {f} {end} {d} {d'} {i} h lt v e q = subst (λ (x : List ℕ). Filling d₀ f end x (i + 1)) (sym q) (filling_turn h lt v e)
 
 -- ---- all_below: true so far; a failure; congruence; what it says
 pub all_none : (p : ℕ → Bool) → all_below 0 p ≡ true
@@ -440,23 +426,6 @@ pub set_splice : (l : List ℕ) (i x : ℕ) → i < length l → set l i x ≡ s
 unfolding splice
 set_splice l i x h = set_split l i x h ∙ ap (λ (r : List ℕ). take i l ++ (x ∷ r)) (ap (λ (k : ℕ). drop k l) (sym (add-one i)) ∙ sym (drop-drop 1 i l))
 
--- ---- a loop with no early way out: b is whether p held so far
-pub record Gathering (n : ℕ) (p : ℕ → Bool) (end : ℕ) (b : Bool) (i : ℕ) : Type 0 where
-  pub ended : end ≡ n
-  pub below : i ≤ end
-  pub is : b ≡ all_below i p
-
-pub gathering_start : (n : ℕ) (p : ℕ → Bool) → Gathering n p n true 0
-gathering_start n p = record { ended = refl; below = zero-le; is = sym (all_none p) }
-
-pub gathering_turn : {n : ℕ} {p : ℕ → Bool} {end : ℕ} {b : Bool} {i : ℕ} → Gathering n p end b i → i < end → Gathering n p end (b && p i) (i + 1)
-unfolding all_below
-gathering_turn {n} {p} {end} {b} {i} h lt =
-    record { ended = h.ended; below = omega arith; is = ap (λ (x : Bool). x && p i) h.is ∙ ap (λ (k : ℕ). all_below k p) (sym (add-one i)) }
-
-pub gathering_done : {n : ℕ} {p : ℕ → Bool} {end : ℕ} {b : Bool} {i : ℕ} → Gathering n p end b i → end ≤ i → b ≡ all_below n p
-gathering_done {n} {p} {end} {b} {i} h past = let e : i ≡ n = omega (arith, h.below, h.ended) in h.is ∙ ap (λ (k : ℕ). all_below k p) e
-
 -- two words together are at most a bound: the first is, and the second is at most what the first leaves of it
 pub leb_add : (x y bound : ℕ) → (leb x bound && leb y (bound - x)) ≡ leb (x + y) bound
 leb_add x y bound = go (lt_or_le bound x) (lt_or_le (bound - x) y)
@@ -506,10 +475,6 @@ unfolding noughts
 noughts_replicate n =
     sym (build_list (replicate n 0) n (length-replicate n 0)) ∙ build_cong n _ _ (λ k lt. get_or-replicate n k 0 0 lt)
 
-either_first : (b : Bool) (m n : ℕ) → m ≡ n → cond (not b) (1 + m) 0 ≡ cond b 0 (suc n)
-either_first true m n e = refl
-either_first false m n e = omega arith
-
 -- ---- first_below: what a search that goes up has shown
 pub first_found : (n : ℕ) (p : ℕ → Bool) (r : ℕ) → r < n → ((k : ℕ) → k < r → p k ≡ false) → p r ≡ true → first_below n p ≡ r
 unfolding first_below
@@ -526,16 +491,10 @@ first_none (suc n) p none =
     ap (λ (b : Bool). cond b zero (suc (first_below n (λ k. p (suc k))))) (none 0 (omega arith))
     ∙ ap suc (first_none n (λ k. p (suc k)) (λ k lt. none (suc k) (omega arith)))
 
--- the invariant of a search that has not found p so far; its start, a turn, its two ends
+-- the invariant of a search that has not found p so far; its two ends
 pub record Searching (n : ℕ) (p : ℕ → Bool) (i : ℕ) : Type 0 where
   pub below : i ≤ n
   pub none : (k : ℕ) → k < i → p k ≡ false
-
-pub searching_start : (n : ℕ) (p : ℕ → Bool) → Searching n p 0
-searching_start n p = record { below = zero-le; none = below_none (λ k. p k ≡ false) }
-
-pub searching_turn : {n : ℕ} {p : ℕ → Bool} {i : ℕ} → Searching n p i → i < n → p i ≡ false → Searching n p (i + 1)
-searching_turn {n} {p} {i} h lt e = record { below = omega arith; none = below_more (λ k. p k ≡ false) i h.none e }
 
 pub searching_found : {n : ℕ} {p : ℕ → Bool} {i : ℕ} → Searching n p i → i < n → p i ≡ true → i ≡ first_below n p
 searching_found {n} {p} {i} h lt e = sym (first_found n p i lt h.none e)

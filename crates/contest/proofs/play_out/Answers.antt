@@ -1,4 +1,4 @@
-use Rattle.std.proofs.Common.{sym, refl, ap, ◌∙◌}
+use Rattle.std.proofs.Common.{sym, refl, ap, ◌∙◌, arith}
 use Rattle.rules.specs.Act.{refusal}
 use Rattle.contest.proofs.Laws.{passed_sound, sound_passed, ended_by, lost_leaves, kept_leaves, unfinished_leaves, bad_leaves}
 use Rattle.contest.proofs.play_out.Goals as goal
@@ -6,8 +6,10 @@ use Rattle.contest.proofs.play_out.Goals as goal
 pub size_of-size-requires : goal.size_of-size-requires
 size_of-size-requires c = sound_passed c.args.l.now c.args.postings.now c.args.k c.args.moves.now c.args.replies.now (sym c.requires) refl
 
-pub contest_ending-requires-clause-le_reference : goal.contest_ending-requires-clause-le_reference
-contest_ending-requires-clause-le_reference c = (passed_sound c.args.l.now c.args.postings.now c.args.k c.args.moves.now c.args.replies.now (sym c.requires) refl).1
+pub invariant_of-row-2 : goal.invariant_of-row-2
+invariant_of-row-2 c =
+    let i = (passed_sound c.args.l.now c.args.postings.now c.args.k c.args.moves.now c.args.replies.now (sym c.requires) refl).1 in
+    record { in_use = omega (arith, i.0, i.1, c.row_of.ensures) }
 
 pub lose-requires-clause-le_reference : goal.lose-requires-clause-le_reference
 lose-requires-clause-le_reference c = (passed_sound c.args.l.now c.args.postings.now c.args.k c.args.moves.now c.args.replies.now (sym c.requires) refl).1
@@ -34,5 +36,5 @@ returns-in-Unfinished c =
 pub returns-in-Refused : goal.returns-in-Refused
 returns-in-Refused c =
     let e = rw c.size_of-size.ensures.hours at c.contest_ending.ensures in
-    let p = bad_leaves c.args.l.now c.args.postings.now c.args.k (ended_by c.args.l.now c.args.postings.now c.args.k c.args.moves.now c.args.replies.now (sym c.requires) refl e c.in-Refused.is) (c.refused.ensures ∙ ap refusal c.number.ensures) in
+    let p = bad_leaves c.args.l.now c.args.postings.now c.args.k (ended_by c.args.l.now c.args.postings.now c.args.k c.args.moves.now c.args.replies.now (sym c.requires) refl e c.in-Refused.is) (c.refused.ensures ∙ ap refusal c.from.ensures) in
     record { answer = p.0; ledger = p.1 }

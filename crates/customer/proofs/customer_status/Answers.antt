@@ -1,21 +1,18 @@
 use Rattle.std.proofs.Common.{sym, ◌∙◌}
-use Rattle.customer.proofs.Laws.{accepted_suits, confirms_bids, after_rebid, after_other}
+use Rattle.customer.proofs.Laws.{suiting, after_rebid, after_other}
 use Rattle.customer.proofs.customer_status.Goals as goal
 use Rattle.customer.proofs.customer_status.Goals.{then-is_bid, else-is_bid}
 
 pub confirm_bid-requires-clause-suits : goal.confirm_bid-requires-clause-suits
-confirm_bid-requires-clause-suits c =
-    let b = confirms_bids c.args.a (sym c.is_confirming.ensures ∙ c.if-is_confirming.true) in
-    accepted_suits c.requires.sound_at c.args.words.now c.args.a c.requires.a_value b c.named-n.ensures
+confirm_bid-requires-clause-suits c = search suiting
 
 pub bid-requires-clause-suits : goal.bid-requires-clause-suits
-bid-requires-clause-suits c =
-    accepted_suits c.requires.sound_at c.args.words.now c.args.a c.requires.a_value (sym c.is_bid.ensures ∙ c.if-is_bid.true) c.named-n.ensures
+bid-requires-clause-suits c = search suiting
 
 pub returns : goal.returns
 returns c =
     let rests = sym c.is_confirming.ensures ∙ c.if-is_confirming.false in
     elim c.if-is_bid.branch [
-      | then-is_bid w ↦ c.set_word.ensures ∙ cc (w.l-is, w.bid.ensures, c.named-n.ensures, after_rebid c.args.size.hours c.args.l.now c.args.words.now c.args.a (sym c.is_bid.ensures ∙ w.if-is_bid.true) rests)
-      | else-is_bid w ↦ c.set_word.ensures ∙ cc (w.l-is, c.named-n.ensures, after_other c.args.size.hours c.args.l.now c.args.words.now c.args.a (sym c.is_bid.ensures ∙ w.if-is_bid.false))
+      | then-is_bid w ↦ c.set_word.ensures ∙ cc (w.l-is, w.bid.ensures, c.named-n.ensures, after_rebid c.args.size.hours c.args.l.now c.args.request.words.now c.args.request.action (sym c.is_bid.ensures ∙ w.if-is_bid.true) rests)
+      | else-is_bid w ↦ c.set_word.ensures ∙ cc (w.l-is, c.named-n.ensures, after_other c.args.size.hours c.args.l.now c.args.request.words.now c.args.request.action (sym c.is_bid.ensures ∙ w.if-is_bid.false))
     ]

@@ -4,8 +4,8 @@ use Rattle.rules.specs.Act.{refusal}
 use Rattle.ledger.proofs.Laws.{accept_asks, step_accepts, step_refuses}
 use Rattle.ledger.proofs.step.Goals as goal
 
-pub accept-requires-clause-passed : goal.accept-requires-clause-passed
-accept-requires-clause-passed c =
+pub accept-requires : goal.accept-requires
+accept-requires c =
     accept_asks c.args.sound c.args.l.now c.args.postings.now c.args.words.now c.args.a c.in-Ok.ensures.number refl c.requires
 
 pub returns-in-Ok : goal.returns-in-Ok
@@ -16,5 +16,5 @@ returns-in-Ok c =
 
 pub returns-in-Err : goal.returns-in-Err
 returns-in-Err c =
-    let s = step_refuses c.args.sound c.args.l.now c.args.postings.now c.args.words.now c.args.a c.in-Err.ensures.number (no_zero _) (c.refused.ensures ∙ ap refusal c.number.ensures) in
+    let s = step_refuses c.args.sound c.args.l.now c.args.postings.now c.args.words.now c.args.a c.in-Err.ensures.number (no_zero _) (c.refused.ensures ∙ ap refusal c.from.ensures) in
     record { answer = s.0; ledger = s.1.0; postings = s.1.1 }

@@ -7,7 +7,7 @@ use Rattle.luddrisa.proofs.Fold.{more, led_ended, psts_ended, out_ended}
 use Rattle.luddrisa.proofs.luddrisa_batch.Goals as goal
 
 pub returns-then-answers-actions-clause-number : goal.returns-then-answers-actions-clause-number
-returns-then-answers-actions-clause-number c = c.number.ensures ∙ sym (too_few_number _ _ (lt-ltb _ _ c.if-answers-actions.true))
+returns-then-answers-actions-clause-number c = c.from.ensures ∙ sym (too_few_number _ _ (lt-ltb _ _ c.if-answers-actions.true))
 
 pub returns-then-answers-actions-clause-ledger : goal.returns-then-answers-actions-clause-ledger
 returns-then-answers-actions-clause-ledger c = sym (too_few_ledger _ _ _ _ _ (lt-ltb _ _ c.if-answers-actions.true))

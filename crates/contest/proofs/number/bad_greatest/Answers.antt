@@ -17,4 +17,4 @@ unfolding bad_greatest
 returns-else-not-is_from-2 c =
     kept_first _ _ _ c.is_from.ensures (ap not c.if-not-is_from.false)
     (kept_first _ _ _ c.is_from-else-not-is_from.ensures (ap not c.if-not-is_from-2.false)
-    (ap (λ (x : ℕ). ltb c.args.k.holder x) c.present_term-present.ensures))
+    (ap (λ (x : ℕ). ltb c.args.c.contest.holder x) c.present_term-present.ensures))

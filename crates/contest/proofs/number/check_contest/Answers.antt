@@ -1,16 +1,16 @@
 use Rattle.std.proofs.Common.{ℕ, sym, ap, ◌∙◌}
-use Rattle.std.proofs.lemmas.Result.{err_from_is_err_and}
 use Rattle.rules.specs.Contest.{contest_number, contest_checks}
 use Rattle.rules.proofs.Refused.{refused_by, passed_by}
 use Rattle.rules.proofs.Soundness.{common_sound, both_facts}
 use Rattle.contest.proofs.Laws.{common_says}
+use Rattle.ledger.proofs.Laws.{passed_on}
 use Rattle.contest.proofs.number.check_contest.Goals as goal
 
 pub returns-in_err-check_common : goal.returns-in_err-check_common
 unfolding contest_number
 returns-in_err-check_common c =
-    let p = err_from_is_err_and c.from_residual.result c.from_residual.ensures.1 in
-    rw (p.1, p.2) (refused_by _ _ _ (common_says _ _ c.args.k c.in_err-check_common.ensures.number c.sound_both.ensures c.displacing.ensures))
+    passed_on _ _ c.from_residual.ensures.1
+    (refused_by _ _ _ (common_says _ _ c.args.k c.in_err-check_common.ensures.number c.sound_both.ensures c.displacing.ensures))
 
 pub size_of-requires : goal.size_of-requires
 size_of-requires c =

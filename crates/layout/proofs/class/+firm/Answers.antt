@@ -1,23 +1,22 @@
-use Rattle.std.proofs.Common.{ℕ, sym, ap, ◌∙◌}
-use Rattle.rules.specs.Sound.{firm}
+use Rattle.std.proofs.Common.{sym, ◌∙◌}
 use Rattle.layout.proofs.Firm.{firm_type, firm_none, firm_loose, firm_up}
 use Rattle.layout.proofs.class.+firm.Goals as goal
 
 pub returns-then-is_firm_type : goal.returns-then-is_firm_type
-returns-then-is_firm_type t c = firm_type _ _ _ _ c.word_at-t.ensures (sym c.is_firm_type.ensures ∙ c.if-is_firm_type.true)
+returns-then-is_firm_type t c = firm_type _ _ _ _ c.word-t.ensures (sym c.is_firm_type.ensures ∙ c.if-is_firm_type.true)
 
 pub returns-then-not-is_resold : goal.returns-then-not-is_resold
 returns-then-not-is_resold t c =
-    firm_none _ _ _ _ c.word_at-t.ensures (sym c.is_firm_type.ensures ∙ c.if-is_firm_type.false) (sym c.is_resold.ensures ∙ c.if-not-is_resold.true)
+    firm_none _ _ _ _ c.word-t.ensures (sym c.is_firm_type.ensures ∙ c.if-is_firm_type.false) (sym c.is_resold.ensures ∙ c.if-not-is_resold.true)
 
-pub returns-then-not-is_upward : goal.returns-then-not-is_upward
-returns-then-not-is_upward t c =
-    firm_loose _ _ _ _ c.word_at-t.ensures _ c.word_at-related.ensures (sym c.is_firm_type.ensures ∙ c.if-is_firm_type.false)
-    (sym c.is_resold.ensures ∙ c.if-not-is_resold.false) (sym c.is_upward.ensures ∙ c.if-not-is_upward.true)
+pub returns-in-None : goal.returns-in-None
+returns-in-None t c =
+    firm_loose _ _ _ _ c.word-t.ensures _ c.word.ensures (sym c.is_firm_type.ensures ∙ c.if-is_firm_type.false)
+    (sym c.is_resold.ensures ∙ c.if-not-is_resold.false) c.in-None.ensures
 
-pub returns : goal.returns
-returns t c =
-    c.firm.ensures
-    ∙ ap (λ (j : ℕ). firm c.args.size.hours c.args.l.now j) c.row_of.ensures
-    ∙ firm_up _ _ _ _ c.word_at-t.ensures _ c.word_at-related.ensures (sym c.is_firm_type.ensures ∙ c.if-is_firm_type.false)
-    (sym c.is_resold.ensures ∙ c.if-not-is_resold.false) (sym c.is_upward.ensures ∙ c.if-not-is_upward.false)
+pub returns-in-Some : goal.returns-in-Some
+returns-in-Some t c =
+    let up = c.in-Some.ensures in
+    cc (c.firm.ensures, c.at.ensures.words, c.at.ensures.size, c.at.ensures.n, up.1)
+    ∙ firm_up _ _ _ _ c.word-t.ensures _ c.word.ensures (sym c.is_firm_type.ensures ∙ c.if-is_firm_type.false)
+    (sym c.is_resold.ensures ∙ c.if-not-is_resold.false) up.0

@@ -1,15 +1,13 @@
-use Rattle.std.proofs.Common.{sym, ◌∙◌, arith}
-use Rattle.words.proofs.Laws.{passing_start, passing_turn, passing_done, passing_fails}
+use Rattle.std.proofs.Common.{◌∙◌, ℕ, Bool, refl, arith, rules}
+use Rattle.std.proofs.lemmas.Iterator.{YieldsList-from_range}
+use Rattle.std.proofs.lemmas.Iterator.Search.{all_from_yields_List}
+use Rattle.words.proofs.Every.{all_numbers}
+use Rattle.rules.specs.Sound.{sound_row}
 use Rattle.layout.proofs.sound.sound_rows.Goals as goal
 
-pub loop-n-init : goal.loop-n-init
-loop-n-init c = passing_start _ _
-
-pub returns-then-not-sound_row : goal.returns-then-not-sound_row
-returns-then-not-sound_row c = passing_fails c.loop-n.invariant (omega arith) (sym c.sound_row.ensures ∙ c.if-not-sound_row.true)
-
-pub loop-n-preserved : goal.loop-n-preserved
-loop-n-preserved c = passing_turn c.loop-n.invariant (omega arith) (sym c.sound_row.ensures ∙ c.if-not-sound_row.false)
-
 pub returns : goal.returns
-returns c = passing_done c.loop-n.invariant (omega arith)
+returns c =
+    let test : ℕ → Bool = λ n. sound_row c.args.size.hours c.args.l.now n in
+    all_from_yields_List test _ _ _ c.all.ensures.ran
+    (YieldsList-from_range 0 c.args.used c.args.used refl (omega arith)) (λ x b q k. search rules)
+    ∙ all_numbers test c.args.used

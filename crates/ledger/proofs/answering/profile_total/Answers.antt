@@ -9,7 +9,8 @@ pub total-requires : goal.total-requires
 unfolding profile
 total-requires c =
     let p = c.requires in
-    omega (arith, ap length c.profile.ensures ∙ part_length c.args.words.now c.args.a.offset c.args.a.length p.fits, p.counted)
+    let a = c.args.request.action in
+    omega (arith, ap length c.profile.ensures ∙ part_length c.args.request.words.now a.offset a.length p.fits, p.counted)
 
 pub overflow_cast-result : goal.overflow_cast-result
 overflow_cast-result c =

@@ -1,16 +1,15 @@
 use Rattle.std.proofs.Common.{refl, sym, ◌∙◌}
-use Rattle.std.proofs.lemmas.Result.{err_from_is_err_and}
 use Rattle.rules.specs.Act.{sound_number, use_number, last_number}
 use Rattle.rules.specs.declared.refusal.Refusal.TheVariants.{OverPosted}
 use Rattle.rules.proofs.Picks.{hit, skip}
 use Rattle.rules.proofs.Refused.{refused_by, passed_by}
+use Rattle.ledger.proofs.Laws.{passed_on}
 use Rattle.ledger.proofs.numbering.check_sound.Goals as goal
 
 pub returns-in_err-check_kind : goal.returns-in_err-check_kind
 unfolding sound_number
 returns-in_err-check_kind c =
-    let p = err_from_is_err_and c.from_residual.result c.from_residual.ensures.1 in
-    rw (p.1, p.2) (refused_by _ _ _ c.in_err-check_kind.ensures)
+    passed_on _ _ c.from_residual.ensures.1 (refused_by _ _ _ c.in_err-check_kind.ensures)
 
 pub returns-then-kind_uses : goal.returns-then-kind_uses
 unfolding sound_number use_number

@@ -2,7 +2,7 @@ use Rattle.std.proofs.Common.{List, ℕ, ap, ◌∙◌}
 use Rattle.rules.specs.Megawatts.{displaced_row, displace}
 use Rattle.rules.proofs.Over.{over_displacing}
 use Rattle.layout.proofs.Lent.{row_lent, row_back}
-use Rattle.megawatts.proofs.Laws.{sized, spanned_as}
+use Rattle.layout.proofs.Placed.{sized, spanned_as}
 use Rattle.megawatts.proofs.moving.displace.Goals as goal
 
 pub displace_row-requires : goal.displace_row-requires

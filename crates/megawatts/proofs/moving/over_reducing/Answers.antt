@@ -1,5 +1,7 @@
-use Rattle.megawatts.proofs.Laws.{spanned_as}
+use Rattle.rules.specs.Layout.{span}
+use Rattle.rules.proofs.Over.{over_reducing}
 use Rattle.megawatts.proofs.moving.over_reducing.Goals as goal
 
-pub over_reducing_row-requires-clause-spanned : goal.over_reducing_row-requires-clause-spanned
-over_reducing_row-requires-clause-spanned c = spanned_as c.requires.placed c.row.ensures
+pub returns : goal.returns
+unfolding over_reducing span
+returns c = cc (c.has_room.ensures, c.start.ensures, c.requires)

@@ -5,7 +5,7 @@ use Rattle.rules.specs.Layout.{on_row, start, span_hours, available}
 use Rattle.rules.specs.Megawatts.{reduced_row, reduce}
 use Rattle.rules.proofs.Over.{over_reducing}
 use Rattle.layout.proofs.Lent.{row_lent, row_back}
-use Rattle.megawatts.proofs.Laws.{sized, spanned_as}
+use Rattle.layout.proofs.Placed.{sized, spanned_as}
 use Rattle.megawatts.proofs.moving.reduce.Goals as goal
 
 pub reduce_row-requires : goal.reduce_row-requires

@@ -3,4 +3,4 @@ use Rattle.opening.proofs.sums.add_held.Goals as goal
 
 pub returns : goal.returns
 returns c =
-    held_added c.args.size.hours c.args.l.now c.args.n c.add_hours.ensures c.add_hours-2.ensures c.add_hours-3.ensures
+    held_added c.args.entry.ledger.size.hours c.args.entry.ledger.words.now c.args.entry.n c.add_profile.ensures c.add_profile-2.ensures c.add_profile-3.ensures

@@ -11,12 +11,13 @@ nothing : within most_megawatts [] ≡ true
 unfolding within every
 nothing = refl
 
-pub add_rows-requires-clause-changing : goal.add_rows-requires-clause-changing
-add_rows-requires-clause-changing c =
-    unchanged_fits c.requires.sound_at (record { own = refl; less = refl; more = refl }) (omega arith) nothing
+pub invariant_of-add_rows : goal.invariant_of-add_rows
+invariant_of-add_rows c = record { changing = unchanged_fits _ _ _ refl (omega arith) nothing }
 
 pub returns : goal.returns
-returns c = record {
-  long = c.add_rows.ensures.long;
-  each = λ h lt. c.add_rows.ensures.each h lt ∙ use_now c.requires.sound_at (record { own = refl; less = refl; more = refl }) c.args.x h;
-}
+returns c =
+    let l = c.args.ledger in
+    record {
+      long = c.add_rows.ensures.long;
+      each = λ h lt. c.add_rows.ensures.each h lt ∙ use_now l.size.hours l.words.now _ refl c.args.x h;
+    }

@@ -1,11 +1,21 @@
 use mathlib.Core.Path.{◌∙◌}
-use Rattle.paths.proofs.Changed.{at_cong, annulling_fits, use_annulling_lem}
+use Rattle.paths.specs.Exceeding.{Annuls}
+use Rattle.paths.proofs.Changed.{as_lent, at_cong, annulling_fits, use_annulling_lem}
 use Rattle.paths.proofs.exceeding.exceeds_annulling.Goals as goal
 
-pub exceeds_at-requires-clause-changing : goal.exceeds_at-requires-clause-changing
-exceeds_at-requires-clause-changing c = annulling_fits c.requires.sound_at c.requires.n_bound c.annulling.ensures
+pub invariant_of-walk : goal.invariant_of-walk
+invariant_of-walk c =
+    let s = c.args.posted.ledger.sound_at in
+    let r = c.reservation in
+    let k = as_lent (λ h l n. Annuls h l n c.annulling-change.result) r.result.row r.ensures c.annulling-change.ensures in
+    record { changing = annulling_fits s c.requires k }
 
 pub returns : goal.returns
 returns c =
+    let p = c.args.posted in
+    let s = p.ledger.sound_at in
+    let r = c.reservation in
+    let k = as_lent (λ h l n. Annuls h l n c.annulling-change.result) r.result.row r.ensures c.annulling-change.ensures in
     c.exceeds_at.ensures
-    ∙ at_cong c.args.size.hours c.args.postings.now _ _ (λ x h lt. use_annulling_lem c.requires.sound_at c.requires.n_bound c.annulling.ensures x h lt) c.args.l.now c.args.n
+    ∙ at_cong p.ledger.size.hours p.postings.now _ _ (λ x h lt. use_annulling_lem s c.requires k x h lt) p.ledger.words.now
+    c.args.n

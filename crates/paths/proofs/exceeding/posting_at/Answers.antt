@@ -6,4 +6,4 @@ use Rattle.paths.proofs.exceeding.posting_at.Goals as goal
 
 pub returns : goal.returns
 unfolding posting_at
-returns c = record { is = refl; fits = omega (arith, path_fits c.args.size.hours c.requires.path, c.requires.h_le_hours) }
+returns c = record { is = refl; fits = omega (arith, path_fits c.args.size.hours c.args.path.in_range, c.requires) }

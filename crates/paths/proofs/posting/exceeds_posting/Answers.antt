@@ -1,32 +1,26 @@
-use mathlib.Core.Path.{refl, sym, ap, ◌∙◌}
+use mathlib.Core.Path.{ap, ◌∙◌}
 use mathlib.Core.Bool.{not}
 use mathlib.Core.List.{List}
 use Prim.Native.Nat.{ℕ}
-use lib.ListN.{length, get_or}
-use native.Mathlib.Omega.{arith}
-use Rattle.words.specs.Lists.{zeros, every, splice}
+use lib.ListN.{get_or}
+use Rattle.words.specs.Lists.{splice}
 use Rattle.rules.specs.Paths.{posting_at, use_of, over_posted}
 use Rattle.rules.proofs.OverPaths.{exceeds}
-use Rattle.paths.proofs.Posted.{cleared, exceeds_by, posted_long}
+use Rattle.paths.proofs.Posted.{exceeds_by}
 use Rattle.paths.proofs.Overlaid.{overlaid_each}
 use Rattle.paths.proofs.posting.exceeds_posting.Goals as goal
-
-pub add_use-requires-clause-sums_value : goal.add_use-requires-clause-sums_value
-unfolding zeros every
-add_use-requires-clause-sums_value c = cleared _ _ refl (omega (arith, c.requires.postings.hours))
-
-pub is_covered-requires : goal.is_covered-requires
-is_covered-requires c = (
-  ap length c.posted.ensures ∙ posted_long c.requires.postings c.requires.path ∙ sym c.add_use.ensures.long,
-  omega (arith, c.requires.profile_bound.0, c.add_use.ensures.long),
-)
 
 pub returns : goal.returns
 unfolding over_posted exceeds
 returns c =
+    let p = c.args.posted in
+    let h = p.ledger.size.hours in
+    let x = c.args.path.number in
+    let s = c.args.start in
+    let v = c.args.profile.now in
     ap not c.is_covered.ensures
-    ∙ exceeds_by c.args.size.hours (splice c.args.postings.now (posting_at c.args.size.hours c.args.x c.args.start) c.args.profile.now) (λ y h. use_of c.args.size.hours c.args.l.now y h) c.args.x _
+    ∙ exceeds_by h (splice p.postings.now (posting_at h x s) v) (λ y k. use_of h p.ledger.words.now y k) x _
     c.add_use.ensures
     (λ k lt.
-    ap (λ (v : List ℕ). get_or (splice v c.args.start c.args.profile.now) k 0) c.posted.ensures
-    ∙ overlaid_each c.requires.postings c.requires.path c.args.start c.args.profile.now c.requires.profile_bound.0 k lt)
+    ap (λ (z : List ℕ). get_or (splice z s v) k 0) c.of_path.ensures.is
+    ∙ overlaid_each p.postings_value c.args.path.in_range s v c.requires.0 k lt)

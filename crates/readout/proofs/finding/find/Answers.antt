@@ -1,28 +1,25 @@
-use Rattle.std.proofs.Common.{sym, ◌∙◌}
-use Rattle.readout.proofs.Laws.{head_read, placed_row, unsound_none, unissued_none, missing_unsound, missing_unissued}
+use Rattle.std.proofs.Common.{false, ◌≡◌}
+use Rattle.rules.specs.Layout.{issued}
+use Rattle.readout.proofs.Laws.{unsound_none, unissued_none, missing_unsound, missing_unissued}
 use Rattle.readout.proofs.finding.find.Goals as goal
 
-pub returns-then-not-sound : goal.returns-then-not-sound
-returns-then-not-sound c =
-    let s = sym c.sound.ensures ∙ c.if-not-sound.true in
-    record { none = unsound_none _ _ s; number = missing_unsound _ _ s }
+pub returns-in_default : goal.returns-in_default
+returns-in_default c = record { none = unsound_none _ _ c.in_default.ensures; number = missing_unsound _ _ c.in_default.ensures }
 
-pub is_issued-requires : goal.is_issued-requires
-is_issued-requires c = head_read _ (sym c.sound.ensures ∙ c.if-not-sound.false)
-
-pub returns-then-not-is_issued : goal.returns-then-not-is_issued
-returns-then-not-is_issued c =
-    let s = sym c.sound.ensures ∙ c.if-not-sound.false in
-    let i = sym c.is_issued.ensures ∙ c.if-not-is_issued.true in
+pub returns-in_default-find : goal.returns-in_default-find
+returns-in_default-find c =
+    let s = c.in-Some.ensures.0 in
+    let i : issued c.args.l.now c.args.reference ≡ false = cc (c.in_default-find.ensures, c.in-Some.ensures.1) in
     record { none = unissued_none _ _ s i; number = missing_unissued _ _ s i }
 
 pub returns : goal.returns
 returns c =
-    let s = sym c.sound.ensures ∙ c.if-not-sound.false in
-    let i = sym c.is_issued.ensures ∙ c.if-not-is_issued.false in
+    let ledger = c.in-Some.ensures in
+    let found = c.in-Some-find.ensures in
+    let hours = c.in-Some.ledger.sound_at.hours in
     record {
-      sound = s;
-      issued = i;
-      placed = placed_row _ _ s i c.size_of.ensures.rows c.size_of.ensures.hours c.row_of-n.ensures;
-      is = c.row_of-n.ensures;
+      sound = ledger.0;
+      issued = cc (found.0, ledger.1);
+      is = cc (found.1, found.2, found.3, ledger.1, hours);
+      hours = cc (found.2, ledger.1, hours);
     }

@@ -1,12 +1,12 @@
 use Prim.Native.Nat.{◌-◌}
 use native.Mathlib.Omega.{arith}
 use Rattle.opening.proofs.Chained.{chained_falls}
-use Rattle.opening.proofs.Added.{walking_turn, walking_room, walking_done}
+use Rattle.opening.proofs.Added.{few, walking_turn, walking_room, walking_done}
 use Rattle.opening.proofs.chains.Chains.add_chain.Goals as goal
 
-pub add_share-requires-clause-sums : goal.add_share-requires-clause-sums
-add_share-requires-clause-sums g c =
-    walking_room c.loop-m.invariant c.args.self.now.sound_at (chained_falls c.args.self.now.chained) c.requires.last_bound c.requires.sums
+pub add_share-requires : goal.add_share-requires
+add_share-requires g c =
+    walking_room c.loop-m.invariant (few c.args.self.now.ledger.sound_at) c.requires.last_bound c.requires.sums
 
 pub loop-m-smaller : goal.loop-m-smaller
 loop-m-smaller g c =
@@ -14,7 +14,7 @@ loop-m-smaller g c =
     omega (arith, low, c.loop-m-test.true)
 
 pub loop-m-preserved : goal.loop-m-preserved
-loop-m-preserved g c = walking_turn c.loop-m.invariant (chained_falls c.args.self.now.chained) c.loop-m-test.true c.add_share.ensures
+loop-m-preserved g c = walking_turn c.loop-m.invariant (chained_falls c.args.self.now.chained) c.loop-m-test.true c.add_share.ensures.sums c.add_share.ensures.most
 
 pub returns : goal.returns
 returns g c = walking_done c.loop-m.invariant c.loop-m-test.false c.requires.sums.long

@@ -1,8 +1,11 @@
+use Rattle.rules.specs.Layout.{used}
 use Rattle.opening.proofs.Added.{Walking}
 use Rattle.opening.proofs.chains.Chains.add_chain.Given as goal
 
 abbrev pub invariant-loop-m : goal.invariant-loop-m
-invariant-loop-m g l = Walking l.self.size.hours l.self.l.now g.T.Test.of_trees l.self.befores.now l.fn.sums l.last l.sums l.m
+invariant-loop-m g l =
+    let ledger = l.self.ledger in
+    Walking (used ledger.words.now) ledger.size.hours (λ h c. g.T.Test.share ledger.size.hours ledger.words.now h c) l.self.befores.now l.fn.sums l.last l.sums l.m
 
 abbrev pub decreases-loop-m : goal.decreases-loop-m
 decreases-loop-m g l = l.m

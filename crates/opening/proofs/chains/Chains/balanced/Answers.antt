@@ -1,14 +1,12 @@
-use mathlib.Core.Path.{sym, ◌∙◌}
-use native.Mathlib.Omega.{arith}
-use Rattle.words.proofs.Laws.{passing_start, passing_turn, passing_fails}
-use Rattle.layout.proofs.SoundAt.{head_fits}
+use mathlib.Core.Path.{refl, sym, ◌∙◌}
+use Prim.Native.Nat.{zero-le}
+use Rattle.words.specs.Lists.{all_below}
+use Rattle.words.proofs.Laws.{passing_turn, passing_fails}
 use Rattle.opening.proofs.chains.Chains.balanced.Goals as goal
 
-pub bounds-self-6 : goal.bounds-self-6
-bounds-self-6 g c = omega (arith, head_fits c.args.self.now.sound_at)
-
 pub loop-n-init : goal.loop-n-init
-loop-n-init g c = passing_start _ _
+unfolding all_below
+loop-n-init g c = record { ended = c.used-n-end.ensures; below = zero-le; all = refl }
 
 pub returns-then-not-row_balanced : goal.returns-then-not-row_balanced
 returns-then-not-row_balanced g c =

@@ -5,7 +5,7 @@ use Rattle.unwinding.proofs.Carried.{following_fails, following_turn, following_
 use Rattle.unwinding.proofs.carrying.Carrying.follow.Goals as goal
 
 pub loop-r-init : goal.loop-r-init
-loop-r-init c = following_start _ _ _ _ _ (marks_start c.args.self.refs.now c.none-marks.ensures) c.requires.summed
+loop-r-init c = following_start _ _ _ _ _ (marks_start c.args.self.refs.now c.none-marks.ensures) c.requires
 
 pub unwind_row-requires-clause-going : goal.unwind_row-requires-clause-going
 unwind_row-requires-clause-going c =
