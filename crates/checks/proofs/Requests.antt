@@ -1,22 +1,14 @@
 -- The row that an action names.
 use mathlib.Core.Path.{◌≡◌, ap}
-use mathlib.Core.Bool.{false}
 use mathlib.Core.List.{List}
 use Prim.Native.Nat.{ℕ, ◌≤◌}
 use native.Mathlib.Omega.{arith}
-use borrow.Author.Tests.{not-false}
-use Rattle.rules.specs.Layout.{used, issued, row}
-use Rattle.rules.specs.Checks.{named, named_row, no_reference}
+use Rattle.rules.specs.Layout.{used, row}
+use Rattle.rules.specs.Checks.{named, named_row}
 use Rattle.rules.specs.declared.Action.{Action}
-use Rattle.rules.proofs.SoundFacts.{range}
 use Rattle.layout.specs.SoundAt.{SoundAt}
 use Rattle.layout.specs.Placed.{Placed}
 use Rattle.layout.proofs.Placed.{placed_at}
-
--- a reference that was issued
-pub issued_range : (l : List ℕ) (a : Action) → no_reference l a ≡ false → (1 ≤ a.reference) × (a.reference ≤ used l)
-unfolding no_reference issued
-issued_range l a e = range 1 a.reference (used l) (not-false _ e)
 
 -- of a sound ledger: the row is in use
 module _ {l : List ℕ} {R H : ℕ} (s : SoundAt l R H) where

@@ -57,7 +57,7 @@ pub fn bad_status(a: Action) -> bool
     !is_from(a.status, QUEUED, MOST_STATUS)
 }
 
-// 3: actor not the provider.
+// 3: actor not the provider. Words with a head are enough: by document 01 this is asked before a row is read.
 #[tactic(auto, unfolding(rules::specs::Checks::not_provider))]
 pub fn not_provider(l: &[u32], a: Action) -> bool
     requires { head_words ≤ length l.now }

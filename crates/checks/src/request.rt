@@ -1,11 +1,14 @@
 // What is asked, with the words lent for its profile, and the row that it names.
-ghost use Rattle.std.specs.Prelude.{◌≡◌, true, ◌&&◌, ◌+◌, ◌≤◌, length};
+ghost use Rattle.std.specs.Prelude.{◌≡◌, true, false, ◌&&◌, ◌+◌, ◌≤◌, length, MatchResult};
 ghost use Rattle.rules.specs.Pick.{pick};
+ghost use Rattle.rules.specs.Layout.{issued};
 ghost use Rattle.rules.specs.Checks.{named, profile, comes as profile_comes, bad_words, bad_profile};
+ghost use Rattle.rules.specs.declared.refusal.Refusal.TheVariants.{NoReference};
 
+use layout::ledger::Ledger;
 use layout::numbers::MOST_MEGAWATTS;
 use layout::reservation::Reservation;
-use rules::Action;
+use rules::{Action, Refusal};
 
 // An action, and the words lent for its profile.
 #[derive(Clone, Copy)]
@@ -14,7 +17,8 @@ pub struct Request<'a> {
     pub words: &'a [u32],
 }
 
-// A request on the row that its action names.
+// A request on the row that its action names. That its profile suits the row (Suits) is known only after a check of the
+// action's kind.
 #[derive(Clone, Copy)]
 pub struct Named<'a> {
     pub request: Request<'a>,
@@ -23,6 +27,26 @@ pub struct Named<'a> {
 }
 
 impl<'a> Request<'a> {
+    // The request on the row that it names, if the reference was issued; else 4.
+    pub fn named(self, ledger: Ledger<'a>) -> Result<Named<'a>, Refusal>
+        ensures { let asked = self.entry in let l = ledger.entry in
+            MatchResult result
+            (λ found. (issued l.words.now asked.action.reference ≡ true)
+            × (found.request ≡ asked)
+            × (found.reservation.row.words.now ≡ l.words.now)
+            × (found.reservation.row.size ≡ l.size)
+            × (found.reservation.row.n ≡ named asked.action))
+            (λ refusal. (refusal ≡ NoReference) × (issued l.words.now asked.action.reference ≡ false)) }
+    {
+        let reservation = ledger
+            .find(self.action.reference)
+            .ok_or(Refusal::NoReference)?;
+        Ok(Named {
+            request: self,
+            reservation,
+        })
+    }
+
     // Whether a profile comes.
     #[tactic(auto, unfolding(rules::specs::Checks::comes))]
     pub fn comes(self) -> bool

@@ -13,18 +13,20 @@ use Rattle.rules.specs.Sound.{sound, firm}
 use Rattle.rules.specs.Megawatts.{displace}
 use Rattle.rules.specs.SellerStatus.{seller_number}
 use Rattle.rules.specs.Act.{common_number, refusal, Outcome, refused, sound_both}
-use Rattle.rules.specs.Contest.{play, present, ending, not_firm, displacing, contest_number, row_kept, ended, contested}
+use Rattle.rules.specs.Contest.{play, present, ending, not_firm, bad_greatest, displacing, contest_checks, contest_number, row_kept, ended, contested}
 use Rattle.rules.specs.declared.Action.{Action}
 use Rattle.rules.specs.declared.Answer.{Answer}
 use Rattle.rules.specs.declared.Contest.{Contest}
 use Rattle.rules.specs.declared.Ending.{Ending}
 use Rattle.rules.specs.declared.Ending.TheVariants.{Kept, Lost, Unfinished, Refused}
-use Rattle.rules.proofs.Picks.{or_stops, or_goes}
+use Rattle.rules.proofs.Picks.{hit, skip, or_stops, or_goes}
+use Rattle.rules.proofs.Refused.{passed_by}
 use Rattle.rules.proofs.Passed.{seller_status_passed}
 use Rattle.rules.proofs.Soundness.{both_facts}
 use Rattle.rules.proofs.Over.{over_displacing}
 use Rattle.rules.proofs.Contested.{displaced_by, row_lost, contest_passed, displacement_outcome}
 use Rattle.layout.specs.SoundAt.{SoundAt}
+use Rattle.layout.specs.declared.size.Size.{Size}
 use Rattle.ledger.proofs.Laws.{both_at}
 
 -- ---- the row that a contest names, once its displacement's own checks passed
@@ -40,10 +42,22 @@ common_says l ps k {a = a} p s e = p ∙ ap (λ (b : Bool). common_number b a) s
 pub seller_says : (H : ℕ) (l : List ℕ) (k : Contest) {r : ℕ} {a : Action} → r ≡ seller_number H l [] a → a ≡ displacing k → r ≡ seller_number H l [] (displacing k)
 seller_says H l k p e = p ∙ ap (λ (x : Action). seller_number H l [] x) e
 
--- 11
-pub firm_says : (H : ℕ) (l : List ℕ) (k : Contest) {r b : Bool} {n : ℕ} → r ≡ firm H l n → n ≡ row_of k.reference → not r ≡ b → not_firm H l k ≡ b
-unfolding not_firm
-firm_says H l k p z q = ap not (sym (p ∙ ap (λ (m : ℕ). firm H l m) z)) ∙ q
+-- they passed, and the row that was asked whether it is firm is the one named
+module _ {size : Size} {l : List ℕ} (k : Contest) {a : Action} (p : 0 ≡ seller_number size.hours l [] a) (e : a ≡ displacing k)
+    {r : Bool} {s : Size} {ws : List ℕ} {i n : ℕ} (is : r ≡ firm s.hours ws i) (words : ws ≡ l) (sized : s ≡ size) (at_n : i ≡ n) (z : n ≡ row_of k.reference) where
+  firm_says : {b : Bool} → not r ≡ b → not_firm size.hours l k ≡ b
+  unfolding not_firm
+  firm_says q = ap not (sym (is ∙ (λ j. firm (sized j).hours (words j) (at_n j)) ∙ ap (λ (m : ℕ). firm size.hours l m) z)) ∙ q
+
+  -- 11
+  pub firm_fails : not r ≡ true → 11 ≡ contest_checks size.hours l k
+  unfolding contest_checks
+  firm_fails q = passed_by _ _ (seller_says _ _ k p e) (hit _ _ _ (firm_says q))
+
+  -- the greatest terms decide
+  pub firm_passes : not r ≡ false → {v : ℕ} → v ≡ pick (bad_greatest size.hours l k) 25 0 → v ≡ contest_checks size.hours l k
+  unfolding contest_checks
+  firm_passes q h = passed_by _ _ (seller_says _ _ k p e) (skip _ _ _ _ (firm_says q) h)
 
 -- 25, of the greatest terms: a range is left, or kept, and the rest decides
 pub left_first : {r : Bool} (a b : Bool) → r ≡ a → not r ≡ true → not r ≡ (not a || b)
@@ -88,9 +102,11 @@ module _ (l ps : List ℕ) (k : Contest) (moves replies : List ℕ) {n : ℕ} (i
     sound_passed = (both_facts l ps (contest_passed l ps k (sym is ∙ none)).both).0
 
     -- the ending decides
-    pub ended_by : {e v : Ending} → e ≡ ending (hours l) l k moves replies → e ≡ v → contested l ps k moves replies ≡ ended l ps k v
+    pub ended_by : {H : ℕ} {e v : Ending} → H ≡ hours l → e ≡ ending H l k moves replies → e ≡ v → contested l ps k moves replies ≡ ended l ps k v
     unfolding contested
-    ended_by ends told = rw (← ends, ← is, none) (ap (λ (x : Ending). ended l ps k x) told)
+    ended_by sized ends told =
+        let e = rw sized at ends in
+        rw (← e, ← is, none) (ap (λ (x : Ending). ended l ps k x) told)
 
     pub lost_leaves : contested l ps k moves replies ≡ ended l ps k Lost → {r : Answer} {l' : List ℕ} → r ≡ (row_lost (hours l) l [] k).answer → l' ≡ (row_lost (hours l) l [] k).ledger
         → (r ≡ (contested l ps k moves replies).answer) × (l' ≡ (contested l ps k moves replies).ledger)

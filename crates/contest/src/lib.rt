@@ -25,6 +25,7 @@ use megawatts::moving::{displace, over_displacing};
 use rules::{Answer, Contest, Ending, Reference, Refusal};
 
 // How the moves end: the last term is at first the row's own hours.
+// Moves and replies stay two slices: C hands two over, and each move is read beside its reply once.
 fn contest_ending(c: Contested, moves: &[u32], replies: &[u32]) -> Ending
     ensures { let l = c.entry.row.ledger in
         result ≡ ending l.size.hours l.words.now c.entry.contest moves.now replies.now }

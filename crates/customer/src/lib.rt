@@ -1,9 +1,9 @@
 // 3 Customer status: its checks, whether it would carry a word over 100,000, and what it writes.
 #![tactic(auto)]
 
-ghost use Rattle.std.specs.Prelude.{◌≡◌, true, false, ◌&&◌, ◌≤◌};
+ghost use Rattle.std.specs.Prelude.{◌≡◌, false, ◌&&◌, ◌≤◌};
 ghost use Rattle.rules.specs.Numbers.{most_price};
-ghost use Rattle.rules.specs.Layout.{issued, row, on_row};
+ghost use Rattle.rules.specs.Layout.{row, on_row};
 ghost use Rattle.rules.specs.Megawatts.{in_force, carries_over};
 ghost use Rattle.rules.specs.Confirming.{confirm as confirmed, short};
 ghost use Rattle.rules.specs.Checks.{named as row_named, bad_if_comes};
@@ -122,14 +122,14 @@ fn check_bid(named: Named) -> Result<(), Refusal>
     Ok(())
 }
 
-// Of a row that was issued: all but 4.
+// The first check that refuses, if any.
 #[tactic(auto, using(crate::proofs::Laws::chosen), unfolding(rules::specs::CustomerStatus::customer_number, rules::specs::Checks::no_reference))]
-fn check_named(named: Named) -> Result<(), Refusal>
-    requires { issued named.reservation.row.words.now named.request.action.reference ≡ true }
-    ensures { let asked = named.entry.request in let row = named.entry.reservation.row in
-        number_of result ≡ customer_number row.size.hours row.words.now asked.words.now asked.action }
+pub fn check_customer_status(ledger: Ledger, request: Request) -> Result<(), Refusal>
+    ensures { let l = ledger.entry in let asked = request.entry in
+        number_of result ≡ customer_number l.size.hours l.words.now asked.words.now asked.action }
 {
-    if bad_status(named.request.action) {
+    let named = request.named(ledger)?;
+    if bad_status(request.action) {
         return Err(Refusal::OutOfRange);
     }
     if not_customer(named) {
@@ -138,24 +138,10 @@ fn check_named(named: Named) -> Result<(), Refusal>
     if no_customer_move(named) {
         return Err(Refusal::WrongMove);
     }
-    if is_bid(named.request.action) {
+    if is_bid(request.action) {
         return check_bid(named);
     }
     Ok(())
-}
-
-#[tactic(auto, using(crate::proofs::Laws::chosen), unfolding(rules::specs::CustomerStatus::customer_number, rules::specs::Checks::no_reference))]
-pub fn check_customer_status(ledger: Ledger, request: Request) -> Result<(), Refusal>
-    ensures { let l = ledger.entry in let asked = request.entry in
-        number_of result ≡ customer_number l.size.hours l.words.now asked.words.now asked.action }
-{
-    match ledger.find(request.action.reference) {
-        None => Err(Refusal::NoReference),
-        Some(reservation) => check_named(Named {
-            request,
-            reservation,
-        }),
-    }
 }
 
 // The move would carry a word over 100,000.

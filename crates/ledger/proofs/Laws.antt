@@ -10,6 +10,7 @@ use lib.Dec.{eqb}
 use lib.ListN.{length}
 use borrow.Author.Tests.{eqb-true, eqb-false, eq-eqb, ne_eqb}
 use Rattle.std.specs.Prelude.{Result, Err}
+use Rattle.std.proofs.lemmas.Bool.{true≢false}
 use Rattle.std.specs.Result.{IsErrAnd}
 use Rattle.std.proofs.lemmas.Result.{err_from_is_err_and}
 use Rattle.words.specs.Lists.{total}
@@ -156,12 +157,55 @@ pub passed_on : {A : Type 0} (r : Result A Refusal) (e : Refusal) {n : ℕ} → 
 passed_on r e i q = let p = err_from_is_err_and r i in rw (p.1, p.2) q
 
 -- by the cases of a sum, which stands first so that they are known
-pub by_either : {A B C : Type 0} → A ⊎ B → (A → C) → (B → C) → C
+by_either : {A B C : Type 0} → A ⊎ B → (A → C) → (B → C) → C
 by_either x f g = ⊎_elim f g x
 
 -- ---- the number of a kind
 pub coded : (k : Known) {kind : Kind} → k.kind ≡ kind → k.request.action.kind ≡ kind_code kind
 coded k e = sym k.code ∙ ap kind_code e
+
+-- of two numbers that a test tells apart
+differs : (test : ℕ → Bool) {k n : ℕ} → test k ≡ true → test n ≡ false → k ≢ n
+differs test t f e = true≢false (sym t ∙ ap test e ∙ f)
+
+-- by kinds that a match names together
+module _ (k : Known) where
+  -- the kind's number meets a test that its code meets
+  met : (test : ℕ → Bool) {kind : Kind} → test (kind_code kind) ≡ true → k.kind ≡ kind → test k.request.action.kind ≡ true
+  met test t e = ap test (coded k e) ∙ t
+
+  -- an action on a row that has a reference
+  pub names_row : k.kind ≡ SellerStatus ⊎ (k.kind ≡ CustomerStatus ⊎ (k.kind ≡ Approve ⊎ (k.kind ≡ Reduce ⊎ k.kind ≡ Lapse)))
+      → (k.request.action.kind ≢ 1) × (k.request.action.kind ≢ 7) × (k.request.action.kind ≢ 8)
+  names_row x = (differs test t refl, differs test t refl, differs test t refl)
+    where
+      test : ℕ → Bool
+      test n = n is_from 2 to 6
+
+      t : test k.request.action.kind ≡ true
+      t = by_either x (met test refl) (λ x. by_either x (met test refl) (λ x. by_either x (met test refl) (λ x. by_either x (met test refl) (met test refl))))
+
+  -- one that carries no word over 100,000
+  pub carries_none : k.kind ≡ Submit ⊎ (k.kind ≡ Approve ⊎ (k.kind ≡ Clock ⊎ k.kind ≡ Post))
+      → (k.request.action.kind ≢ 2) × (k.request.action.kind ≢ 3) × (k.request.action.kind ≢ 5) × (k.request.action.kind ≢ 6)
+  carries_none x = (differs test t refl, differs test t refl, differs test t refl, differs test t refl)
+    where
+      test : ℕ → Bool
+      test n = not (eqb n 2 || (eqb n 3 || (eqb n 5 || eqb n 6)))
+
+      t : test k.request.action.kind ≡ true
+      t = by_either x (met test refl) (λ x. by_either x (met test refl) (λ x. by_either x (met test refl) (met test refl)))
+
+  -- one that alters no use of a path
+  pub uses_none : k.kind ≡ Submit ⊎ (k.kind ≡ Reduce ⊎ k.kind ≡ Clock)
+      → (k.request.action.kind ≢ 2) × (k.request.action.kind ≢ 3) × (k.request.action.kind ≢ 4) × (k.request.action.kind ≢ 6) × (k.request.action.kind ≢ 8)
+  uses_none x = (differs test t refl, differs test t refl, differs test t refl, differs test t refl, differs test t refl)
+    where
+      test : ℕ → Bool
+      test n = eqb n 1 || (eqb n 5 || eqb n 7)
+
+      t : test k.request.action.kind ≡ true
+      t = by_either x (met test refl) (λ x. by_either x (met test refl) (met test refl))
 
 pub code_in : (kind : Kind) → (kind_code kind is_from 1 to most_kind) ≡ true
 code_in Submit = refl

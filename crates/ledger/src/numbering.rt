@@ -24,7 +24,8 @@ use seller::number::check_seller_status;
 use seller::status::{seller_over, seller_uses};
 use submission::checking::check_submit;
 
-// The checks that every action has: the kind of one that passes them.
+// The checks that every action has: the kind of one that passes them. Whether ledger and postings are sound is told: of a
+// list of actions they are tested once.
 pub fn check_common(sound: bool, a: Action) -> Result<Kind, Refusal>
     ensures number { number_of result ≡ common_number sound a }
     ensures kind { IfOk result (λ kind. kind_code kind ≡ a.kind) }

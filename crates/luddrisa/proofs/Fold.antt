@@ -4,7 +4,6 @@ use mathlib.Core.Bool.{Bool}
 use mathlib.Core.List.{List, [], ◌∷◌, ◌++◌}
 use Prim.Native.Nat.{ℕ, zero, suc, ◌<◌, ◌≤◌}
 use native.Mathlib.Nat.{not-suc-le-zero, le_of_suc-le-suc}
-use native.Mathlib.Omega.{arith}
 use lib.ListN.{length, get_or, set, drop, length-set}
 use Rattle.rules.specs.Act.{Outcome, step, sound_both}
 use Rattle.rules.proofs.Batches.{ledgers_by, postings_by, replies_by, length_replies, tested_after}
@@ -49,16 +48,6 @@ pub record Turned (b : Bool) (l₀ ps₀ w : List ℕ) (xs : List Action) (out�
   pub led_is : ledgers_by b led psts w (drop i xs) ≡ ledgers_by b l₀ ps₀ w xs
   pub psts_is : postings_by b led psts w (drop i xs) ≡ postings_by b l₀ ps₀ w xs
   pub out_is : poured out i (replies_by b led psts w (drop i xs)) ≡ poured out₀ 0 (replies_by b l₀ ps₀ w xs)
-
-pub begun : (b : Bool) (l₀ ps₀ w : List ℕ) (xs : List Action) (out₀ : List Answer) → b ≡ sound_both l₀ ps₀ → Turned b l₀ ps₀ w xs out₀ 0 l₀ ps₀ out₀
-begun b l₀ ps₀ w xs out₀ e = record {
-  within = omega arith;
-  out_long = refl;
-  tested = e;
-  led_is = refl;
-  psts_is = refl;
-  out_is = refl;
-}
 
 module _ {b : Bool} {l₀ ps₀ w : List ℕ} {xs : List Action} {out₀ : List Answer} {i : ℕ} {led psts : List ℕ} {out : List Answer} (s : Turned b l₀ ps₀ w xs out₀ i led psts out) where
   abbrev pub doing : Action

@@ -69,6 +69,7 @@ impl<'a, T: Test> Chains<'a, T> {
             Adds (λ h. chain_sum self.now.befores.now (share h) last) sums.old sums.new }
     {
         let mut m = last as usize;
+        // No walk by number: each turn reads where the next row stands.
         while m != 0 {
             let entry = Entry {
                 ledger: self.ledger,

@@ -8,7 +8,7 @@ ghost use Rattle.rules.specs.Confirming.{short};
 ghost use Rattle.rules.specs.Paths.{posting_at};
 ghost use Rattle.rules.proofs.After.{use_confirming, use_annulling};
 ghost use Rattle.rules.proofs.OverPaths.{exceeds, exceeds_at};
-ghost use Rattle.paths.specs.Changes.{use_by};
+ghost use Rattle.paths.specs.Changes.{use_by, Changing};
 ghost use Rattle.paths.specs.Exceeding.{Postings, PostingAt, above, confirmed_rows, Confirms, Annuls};
 ghost use Rattle.paths.specs.Own.{exceeds_own};
 
@@ -29,12 +29,12 @@ pub struct Posted<'a> {
     ghost postings_value: { Postings ledger.size.hours postings.now },
 }
 
-// A walk, and the postings that the use is judged by.
+// A change that can be made to the ledger, and is judged by the postings.
 #[derive(Clone, Copy)]
 struct Judged<'a> {
-    walk: Walk<'a>,
-    postings: &'a [u32],
-    ghost postings_value: { Postings walk.ledger.size.hours postings.now },
+    posted: Posted<'a>,
+    change: Change<'a>,
+    ghost changing: { Changing posted.ledger.words.now posted.ledger.size.hours change },
 }
 
 // Where hour h of a path stands in the postings.
@@ -69,32 +69,34 @@ impl<'a> Posted<'a> {
 impl<'a> Judged<'a> {
     // Of a path.
     fn exceeds(self, path: Path) -> bool
-        ensures { let walk = self.entry.walk in
-            let hours = walk.ledger.size.hours in
-            let words = walk.ledger.words.now in
-            result ≡ exceeds hours self.entry.postings.now (λ y h. use_by hours words walk.change y h) path.number }
+        ensures { let judged = self.entry in
+            let hours = judged.posted.ledger.size.hours in
+            let words = judged.posted.ledger.words.now in
+            let postings = judged.posted.postings.now in
+            result ≡ exceeds hours postings (λ y h. use_by hours words judged.change y h) path.number }
     {
         // No heap in the library: memory for the most hours.
         let mut buffer = [0u32; MOST_HOURS as usize];
-        let sums = &mut buffer[..self.walk.ledger.size.hours];
-        self.walk.add_rows(sums, path.number);
-        let posted = Posted {
-            ledger: self.walk.ledger,
-            postings: self.postings,
+        let sums = &mut buffer[..self.posted.ledger.size.hours];
+        let walk = Walk {
+            ledger: self.posted.ledger,
+            change: self.change,
         };
-        !words::all_covered(sums, posted.of_path(path))
+        walk.add_rows(sums, path.number);
+        !words::all_covered(sums, self.posted.of_path(path))
     }
 
     // Of the path of row n, or of its related row's.
     #[tactic(auto, unfolding(rules::proofs::OverPaths::exceeds_at))]
     fn exceeds_at(self, n: usize) -> bool
-        requires { n < used_rows self.walk.ledger.words.now }
-        ensures { let walk = self.entry.walk in
-            let hours = walk.ledger.size.hours in
-            let words = walk.ledger.words.now in
-            result ≡ exceeds_at hours words n self.entry.postings.now (λ y h. use_by hours words walk.change y h) }
+        requires { n < used_rows self.posted.ledger.words.now }
+        ensures { let judged = self.entry in
+            let hours = judged.posted.ledger.size.hours in
+            let words = judged.posted.ledger.words.now in
+            let postings = judged.posted.postings.now in
+            result ≡ exceeds_at hours words n postings (λ y h. use_by hours words judged.change y h) }
     {
-        let r = self.walk.ledger.reservation(n);
+        let r = self.posted.ledger.reservation(n);
         let own = Path::of(r);
         if self.exceeds(own) {
             return true;
@@ -173,15 +175,7 @@ pub fn exceeds_confirming(posted: Posted, n: usize, mw: &[u32]) -> bool
         result ≡ exceeds_at hours words n postings (λ x h. use_confirming hours words n mw.now x h) }
 {
     let change = confirming(posted.ledger.reservation(n), mw);
-    let walk = Walk {
-        ledger: posted.ledger,
-        change,
-    };
-    Judged {
-        walk,
-        postings: posted.postings,
-    }
-    .exceeds_at(n)
+    Judged { posted, change }.exceeds_at(n)
 }
 
 // With the profile in force, read in place.
@@ -206,13 +200,5 @@ pub fn exceeds_annulling(posted: Posted, n: usize) -> bool
         result ≡ exceeds_at hours words n postings (λ x h. use_annulling hours words n x h) }
 {
     let change = annulling(posted.ledger.reservation(n));
-    let walk = Walk {
-        ledger: posted.ledger,
-        change,
-    };
-    Judged {
-        walk,
-        postings: posted.postings,
-    }
-    .exceeds_at(n)
+    Judged { posted, change }.exceeds_at(n)
 }

@@ -31,9 +31,7 @@ fn not_approvable(r: Reservation) -> bool
 pub fn check_approve(ledger: Ledger, a: Action) -> Result<(), Refusal>
     ensures { number_of result ≡ approve_number ledger.entry.size.hours ledger.entry.words.now a }
 {
-    let Some(r) = ledger.find(a.reference) else {
-        return Err(Refusal::NoReference);
-    };
+    let r = ledger.find(a.reference).ok_or(Refusal::NoReference)?;
     if not_provider(ledger.words, a) {
         return Err(Refusal::WrongParty);
     }

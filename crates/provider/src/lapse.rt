@@ -46,9 +46,7 @@ fn too_early(r: Reservation) -> bool
 pub fn check_lapse(ledger: Ledger, a: Action) -> Result<(), Refusal>
     ensures { number_of result ≡ lapse_number ledger.entry.size.hours ledger.entry.words.now a }
 {
-    let Some(r) = ledger.find(a.reference) else {
-        return Err(Refusal::NoReference);
-    };
+    let r = ledger.find(a.reference).ok_or(Refusal::NoReference)?;
     if not_provider(ledger.words, a) {
         return Err(Refusal::WrongParty);
     }

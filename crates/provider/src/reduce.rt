@@ -9,7 +9,7 @@ ghost use Rattle.layout.specs.SoundAt.{SoundAt};
 ghost use Rattle.layout.specs.Rows.{own};
 
 use checks::checks::{named, not_provider};
-use checks::request::Request;
+use checks::request::{Named, Request};
 use layout::ledger::Ledger;
 use layout::numbers::{RELINQUISH, REQTYPE};
 use layout::profile::Profile;
@@ -27,22 +27,23 @@ fn not_reducible(r: Reservation) -> bool
 }
 
 // The profile asked for is none for its span.
-fn bad_for_span(r: Reservation, request: Request) -> bool
-    ensures { let asked = request.entry in
-        result ≡ bad_profile asked.words.now asked.action (span_hours (own r.entry.row)) }
+fn bad_for_span(named: Named) -> bool
+    ensures { let asked = named.entry.request in
+        result ≡ bad_profile asked.words.now asked.action (span_hours (own named.entry.reservation.row)) }
 {
-    request.bad_profile(r.count())
+    named.request.bad_profile(named.reservation.count())
 }
 
 // It has less available than the profile in an hour.
 #[tactic(auto, using(crate::proofs::Laws::too_much), unfolding(rules::specs::Reduce::reduces_too_much))]
-fn reduces_too_much(r: Reservation, request: Request) -> bool
-    requires { bad_profile request.words.now request.action (span_hours (own r.row)) ≡ false }
-    ensures { let row = r.entry.row in
-        result ≡ reduces_too_much row.size.hours request.entry.words.now request.entry.action (own row) }
+fn reduces_too_much(named: Named) -> bool
+    requires { let asked = named.request in
+        bad_profile asked.words.now asked.action (span_hours (own named.reservation.row)) ≡ false }
+    ensures { let asked = named.entry.request in let row = named.entry.reservation.row in
+        result ≡ reduces_too_much row.size.hours asked.words.now asked.action (own row) }
 {
-    !r.row
-        .covers(Profile::Available, r.row.start(), request.profile())
+    let row = named.reservation.row;
+    !row.covers(Profile::Available, row.start(), named.request.profile())
 }
 
 #[tactic(auto, using(crate::proofs::Laws::chosen), unfolding(rules::specs::Reduce::reduce_number, rules::specs::Checks::no_reference))]
@@ -50,20 +51,17 @@ pub fn check_reduce(ledger: Ledger, request: Request) -> Result<(), Refusal>
     ensures { let l = ledger.entry in
         number_of result ≡ reduce_number l.size.hours l.words.now request.entry.words.now request.entry.action }
 {
-    let a = request.action;
-    let Some(r) = ledger.find(a.reference) else {
-        return Err(Refusal::NoReference);
-    };
-    if not_provider(ledger.words, a) {
+    let named = request.named(ledger)?;
+    if not_provider(ledger.words, request.action) {
         return Err(Refusal::WrongParty);
     }
-    if not_reducible(r) {
+    if not_reducible(named.reservation) {
         return Err(Refusal::WrongMove);
     }
-    if bad_for_span(r, request) {
+    if bad_for_span(named) {
         return Err(Refusal::WrongProfile);
     }
-    if reduces_too_much(r, request) {
+    if reduces_too_much(named) {
         return Err(Refusal::Short);
     }
     Ok(())

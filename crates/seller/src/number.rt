@@ -1,8 +1,8 @@
 // The checks of a seller status, on the row that the action names.
-ghost use Rattle.std.specs.Prelude.{◌≡◌, ◌&&◌, ◌||◌, not, true, false, eqb, length};
+ghost use Rattle.std.specs.Prelude.{◌≡◌, ◌&&◌, ◌||◌, not, eqb, length};
 ghost use Rattle.rules.specs.Pick.{◌only_if◌};
 ghost use Rattle.rules.specs.Numbers.{preconfirmed, approved, ANNULLED as annulled, RESALE as resale};
-ghost use Rattle.rules.specs.Layout.{provider, issued, reqtype, has, span_hours};
+ghost use Rattle.rules.specs.Layout.{provider, reqtype, has, span_hours};
 ghost use Rattle.rules.specs.Sound.{transfer};
 ghost use Rattle.rules.specs.SellerStatus.{not_seller, no_seller_move, counters as is_counter, accepts as is_acceptance, offers as is_offer, granted_after, unfit_offer, goes_on, fit_number, offer_number, annuls_confirmed, partly_used, seller_number};
 ghost use Rattle.rules.specs.Refusals.{number_of};
@@ -47,7 +47,7 @@ pub fn offers(a: Action) -> bool
     counters(a) || accepts(a)
 }
 
-// A confirmed row is annulled.
+// A confirmed row is annulled. This and goes_on take a reservation and an action: what writes the row asks them too.
 #[tactic(auto, unfolding(rules::specs::SellerStatus::annuls_confirmed))]
 pub fn annuls_confirmed(r: Reservation, a: Action) -> bool
     ensures { result ≡ annuls_confirmed a (own r.entry.row) }
@@ -72,27 +72,30 @@ pub fn goes_on(r: Reservation, a: Action) -> bool
 }
 
 // The provider annuls a resale.
-fn provider_annuls(r: Reservation, a: Action) -> bool
-    ensures { let row = r.entry.row in
+fn provider_annuls(named: Named) -> bool
+    ensures { let a = named.entry.request.action in let row = named.entry.reservation.row in
         result ≡ (eqb a.actor (provider row.words.now) && (eqb a.status annulled && eqb (reqtype (own row)) resale)) }
 {
-    a.actor == r.row.words[PROVIDER] && (a.status == ANNULLED && r.row.word(REQTYPE) == RESALE)
+    let a = named.request.action;
+    let row = named.reservation.row;
+    a.actor == row.words[PROVIDER] && (a.status == ANNULLED && row.word(REQTYPE) == RESALE)
 }
 
 // 3: actor not the row's seller (the provider may also annul type 3).
 #[tactic(auto, unfolding(rules::specs::SellerStatus::not_seller))]
-fn not_seller(r: Reservation, a: Action) -> bool
-    ensures { let row = r.entry.row in result ≡ not_seller row.words.now a (own row) }
+fn not_seller(named: Named) -> bool
+    ensures { let row = named.entry.reservation.row in
+        result ≡ not_seller row.words.now named.entry.request.action (own row) }
 {
-    a.actor != r.row.word(SELLER) && !provider_annuls(r, a)
+    named.request.action.actor != named.reservation.row.word(SELLER) && !provider_annuls(named)
 }
 
 // 11: move.
 #[tactic(auto, unfolding(rules::specs::SellerStatus::no_seller_move))]
-fn no_seller_move(r: Reservation, a: Action) -> bool
-    ensures { result ≡ no_seller_move a (own r.entry.row) }
+fn no_seller_move(named: Named) -> bool
+    ensures { let row = named.entry.reservation.row in result ≡ no_seller_move named.entry.request.action (own row) }
 {
-    !seller_may_row(r.row, a.status)
+    !seller_may_row(named.reservation.row, named.request.action.status)
 }
 
 // Granted after the move: the profile that comes, else the profile in force.
@@ -107,15 +110,17 @@ pub fn granted_after<'a>(request: Request<'a>, r: Reservation<'a>) -> &'a [u32]
 
 // 12: granted over requested in an hour (6, 7), or offer or granted unequal to bid or requested (10, 11).
 #[tactic(auto, unfolding(rules::specs::SellerStatus::unfit_offer))]
-fn unfit_offer(r: Reservation, a: Action, mw: &[u32]) -> bool
-    requires { length mw.now ≡ span_hours (own r.row) }
-    ensures { let row = r.entry.row in result ≡ unfit_offer row.size.hours a mw.now (own row) }
+fn unfit_offer(named: Named, mw: &[u32]) -> bool
+    requires { length mw.now ≡ span_hours (own named.reservation.row) }
+    ensures { let row = named.entry.reservation.row in
+        result ≡ unfit_offer row.size.hours named.entry.request.action mw.now (own row) }
 {
-    let requested = r.span(Profile::Requested);
-    if counters(a) {
+    let requested = named.reservation.span(Profile::Requested);
+    if counters(named.request.action) {
         return !words::all_covered(mw, requested);
     }
-    a.price != r.row.word(BID) || !words::all_equal(mw, requested)
+    named.request.action.price != named.reservation.row.word(BID)
+        || !words::all_equal(mw, requested)
 }
 
 // 12; then, if it confirms, as confirming.
@@ -125,12 +130,11 @@ fn check_fit(named: Named, mw: &[u32]) -> Result<(), Refusal>
     ensures { let row = named.entry.reservation.row in
         number_of result ≡ fit_number row.size.hours row.words.now named.entry.request.action mw.now }
 {
-    let r = named.reservation;
-    let a = named.request.action;
-    if unfit_offer(r, a, mw) {
+    if unfit_offer(named, mw) {
         return Err(Refusal::WrongPrice);
     }
-    if !goes_on(r, a) {
+    let r = named.reservation;
+    if !goes_on(r, named.request.action) {
         return Ok(());
     }
     check_confirm(r, mw, r.row.has(APPROVED))
@@ -169,36 +173,12 @@ fn check_offered(named: Named) -> Result<(), Refusal>
 
 // 15: annulling a confirmed row whose available differs from granted.
 #[tactic(auto, unfolding(rules::specs::SellerStatus::partly_used))]
-fn annuls_partly_used(r: Reservation, a: Action) -> bool
-    ensures { let row = r.entry.row in result ≡ partly_used row.size.hours a (own row) }
-{
-    annuls_confirmed(r, a) && partly_used(r)
-}
-
-// The checks after that of the reference.
-#[tactic(auto, using(crate::proofs::Laws::checking), unfolding(rules::specs::SellerStatus::seller_number, rules::specs::Checks::no_reference))]
-fn check_named(named: Named) -> Result<(), Refusal>
-    requires { issued named.reservation.row.words.now named.request.action.reference ≡ true }
+fn annuls_partly_used(named: Named) -> bool
     ensures { let row = named.entry.reservation.row in
-        let asked = named.entry.request in
-        number_of result ≡ seller_number row.size.hours row.words.now asked.words.now asked.action }
+        result ≡ partly_used row.size.hours named.entry.request.action (own row) }
 {
     let r = named.reservation;
-    let a = named.request.action;
-    if bad_status(a) {
-        return Err(Refusal::OutOfRange);
-    }
-    if not_seller(r, a) {
-        return Err(Refusal::WrongParty);
-    }
-    if no_seller_move(r, a) {
-        return Err(Refusal::WrongMove);
-    }
-    check_offered(named)?;
-    if annuls_partly_used(r, a) {
-        return Err(Refusal::PartlyUsed);
-    }
-    Ok(())
+    annuls_confirmed(r, named.request.action) && partly_used(r)
 }
 
 // The first check that refuses, if any.
@@ -207,11 +187,19 @@ pub fn check_seller_status(ledger: Ledger, request: Request) -> Result<(), Refus
     ensures { let l = ledger.entry in
         number_of result ≡ seller_number l.size.hours l.words.now request.entry.words.now request.entry.action }
 {
-    match ledger.find(request.action.reference) {
-        None => Err(Refusal::NoReference),
-        Some(reservation) => check_named(Named {
-            request,
-            reservation,
-        }),
+    let named = request.named(ledger)?;
+    if bad_status(request.action) {
+        return Err(Refusal::OutOfRange);
     }
+    if not_seller(named) {
+        return Err(Refusal::WrongParty);
+    }
+    if no_seller_move(named) {
+        return Err(Refusal::WrongMove);
+    }
+    check_offered(named)?;
+    if annuls_partly_used(named) {
+        return Err(Refusal::PartlyUsed);
+    }
+    Ok(())
 }

@@ -1,8 +1,6 @@
 // A seller status that no check refused: whether it would carry a word over 100,000, and what it writes. Row n is the
 // row that the action names.
-ghost use Rattle.std.specs.Prelude.{◌≡◌, true, false, ◌≤◌, length};
-ghost use Rattle.rules.specs.Numbers.{row_words};
-ghost use Rattle.rules.specs.Layout.{row, on_row, set_status};
+ghost use Rattle.std.specs.Prelude.{◌≡◌, true, false};
 ghost use Rattle.rules.specs.Megawatts.{carries_over};
 ghost use Rattle.rules.specs.Checks.{named as row_named};
 ghost use Rattle.rules.specs.SellerStatus.{offers as is_offer, granted_after, seller_number, other_after, seller_after};

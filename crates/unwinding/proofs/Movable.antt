@@ -17,13 +17,6 @@ use Rattle.unwinding.specs.Marks.{marked, Marks, Late}
 use Rattle.unwinding.proofs.Passes.{movable_row}
 use Rattle.unwinding.proofs.Marked.{marks_start, marks_gone, marks_turn, late_start, late_turn}
 
--- the row of a reference that was issued is in use
-pub issued_row : (l : Rows) (r : ℕ) {b : Bool} → b ≡ issued l.ledger.words.now r → b ≡ true
-    → {n : ℕ} → n ≡ row_of r → n < l.used
-unfolding issued
-issued_row l r q t e =
-    let b = range 1 r (used l.ledger.words.now) (sym q ∙ t) in omega (arith, e, b.0, b.1, l.used_value)
-
 -- ---- at the k-th: those before it can go, and have their marks
 pub record Moving (H : ℕ) (l refs : List ℕ) (gone late : List Bool) (k : ℕ) : Type 0 where
   pub pass : Passing (length refs) (λ j. movable H l (gone_at refs j) (word_at refs j)) (length refs) k

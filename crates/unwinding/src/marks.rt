@@ -12,7 +12,7 @@ use layout::numbers::{MOST_ROWS, NONFIRM_REDIRECT, PATH, REQTYPE};
 use layout::row::Row;
 use std::marker::Model;
 
-// A mark for each row: contracts see the list of them.
+// A mark for each row, for the most rows, since the library has no heap: contracts see the list of them.
 #[derive(Drop)]
 pub struct RowMarks {
     rows: [bool; MOST_ROWS as usize],

@@ -16,25 +16,21 @@ lose-requires-clause-le_reference c = (passed_sound c.args.l.now c.args.postings
 
 pub returns-in-Kept : goal.returns-in-Kept
 returns-in-Kept c =
-    let e = rw c.size_of-size.ensures.hours at c.contest_ending.ensures in
-    let p = kept_leaves c.args.l.now c.args.postings.now c.args.k (ended_by c.args.l.now c.args.postings.now c.args.k c.args.moves.now c.args.replies.now (sym c.requires) refl e c.in-Kept.is) c.row_kept.ensures in
+    let p = kept_leaves _ _ _ (ended_by _ _ _ _ _ (sym c.requires) refl c.size_of-size.ensures.hours c.contest_ending.ensures c.in-Kept.is) c.row_kept.ensures in
     record { answer = p.0; ledger = p.1 }
 
 pub returns-in-Lost : goal.returns-in-Lost
 returns-in-Lost c =
-    let e = rw c.size_of-size.ensures.hours at c.contest_ending.ensures in
     let o = rw c.size_of-size.ensures.hours at c.lose.ensures in
-    let p = lost_leaves c.args.l.now c.args.postings.now c.args.k c.args.moves.now c.args.replies.now (sym c.requires) refl (ended_by c.args.l.now c.args.postings.now c.args.k c.args.moves.now c.args.replies.now (sym c.requires) refl e c.in-Lost.is) o.answer o.ledger in
+    let p = lost_leaves _ _ _ _ _ (sym c.requires) refl (ended_by _ _ _ _ _ (sym c.requires) refl c.size_of-size.ensures.hours c.contest_ending.ensures c.in-Lost.is) o.answer o.ledger in
     record { answer = p.0; ledger = p.1 }
 
 pub returns-in-Unfinished : goal.returns-in-Unfinished
 returns-in-Unfinished c =
-    let e = rw c.size_of-size.ensures.hours at c.contest_ending.ensures in
-    let p = unfinished_leaves c.args.l.now c.args.postings.now c.args.k (ended_by c.args.l.now c.args.postings.now c.args.k c.args.moves.now c.args.replies.now (sym c.requires) refl e c.in-Unfinished.is) c.row_kept-in-Unfinished.ensures in
+    let p = unfinished_leaves _ _ _ (ended_by _ _ _ _ _ (sym c.requires) refl c.size_of-size.ensures.hours c.contest_ending.ensures c.in-Unfinished.is) c.row_kept-in-Unfinished.ensures in
     record { answer = p.0; ledger = p.1 }
 
 pub returns-in-Refused : goal.returns-in-Refused
 returns-in-Refused c =
-    let e = rw c.size_of-size.ensures.hours at c.contest_ending.ensures in
-    let p = bad_leaves c.args.l.now c.args.postings.now c.args.k (ended_by c.args.l.now c.args.postings.now c.args.k c.args.moves.now c.args.replies.now (sym c.requires) refl e c.in-Refused.is) (c.refused.ensures ∙ ap refusal c.from.ensures) in
+    let p = bad_leaves _ _ _ (ended_by _ _ _ _ _ (sym c.requires) refl c.size_of-size.ensures.hours c.contest_ending.ensures c.in-Refused.is) (c.refused.ensures ∙ ap refusal c.from.ensures) in
     record { answer = p.0; ledger = p.1 }

@@ -1,9 +1,8 @@
-use Rattle.std.proofs.Common.{◌≡◌, refl, sym, ◌∙◌, arith}
-use Rattle.rules.specs.Sound.{firm}
+use Rattle.std.proofs.Common.{refl, sym, ◌∙◌, arith}
 use Rattle.rules.specs.Contest.{contest_checks}
 use Rattle.rules.proofs.Picks.{hit, skip}
-use Rattle.rules.proofs.Refused.{refused_by, passed_by}
-use Rattle.contest.proofs.Laws.{row_issued, seller_says, firm_says}
+use Rattle.rules.proofs.Refused.{refused_by}
+use Rattle.contest.proofs.Laws.{row_issued, seller_says, firm_fails, firm_passes}
 use Rattle.ledger.proofs.Laws.{passed_on}
 use Rattle.contest.proofs.number.check_sound.Goals as goal
 
@@ -19,27 +18,18 @@ invariant_of-row c =
     record { in_use = omega (arith, i.0, i.1, c.row_of.ensures) }
 
 pub returns-then-not-firm : goal.returns-then-not-firm
-unfolding contest_checks
 returns-then-not-firm c =
-    let l = c.args.ledger in
-    let is : c.firm.result ≡ firm l.size.hours l.words.now c.row_of.result.0 = cc (c.firm.ensures, c.row.ensures.words, c.row.ensures.size, c.row.ensures.n) in
-    passed_by _ _ (seller_says _ _ c.args.k c.in_ok-check_seller_status.ensures c.displacing.ensures)
-    (hit _ _ _ (firm_says _ _ _ is c.row_of.ensures (simp c.if-not-firm.true)))
+    firm_fails c.args.k c.in_ok-check_seller_status.ensures c.displacing.ensures
+    c.firm.ensures c.row.ensures.words c.row.ensures.size c.row.ensures.n c.row_of.ensures (simp c.if-not-firm.true)
 
 pub returns-then-bad_greatest : goal.returns-then-bad_greatest
-unfolding contest_checks
 returns-then-bad_greatest c =
-    let l = c.args.ledger in
-    let is : c.firm.result ≡ firm l.size.hours l.words.now c.row_of.result.0 = cc (c.firm.ensures, c.row.ensures.words, c.row.ensures.size, c.row.ensures.n) in
-    passed_by _ _ (seller_says _ _ c.args.k c.in_ok-check_seller_status.ensures c.displacing.ensures)
-    (skip _ _ _ _ (firm_says _ _ _ is c.row_of.ensures (simp c.if-not-firm.false))
-    (hit _ _ _ (sym c.bad_greatest.ensures ∙ c.if-bad_greatest.true)))
+    firm_passes c.args.k c.in_ok-check_seller_status.ensures c.displacing.ensures
+    c.firm.ensures c.row.ensures.words c.row.ensures.size c.row.ensures.n c.row_of.ensures (simp c.if-not-firm.false)
+    (hit _ _ _ (sym c.bad_greatest.ensures ∙ c.if-bad_greatest.true))
 
 pub returns : goal.returns
-unfolding contest_checks
 returns c =
-    let l = c.args.ledger in
-    let is : c.firm.result ≡ firm l.size.hours l.words.now c.row_of.result.0 = cc (c.firm.ensures, c.row.ensures.words, c.row.ensures.size, c.row.ensures.n) in
-    passed_by _ _ (seller_says _ _ c.args.k c.in_ok-check_seller_status.ensures c.displacing.ensures)
-    (skip _ _ _ _ (firm_says _ _ _ is c.row_of.ensures (simp c.if-not-firm.false))
-    (skip _ _ _ _ (sym c.bad_greatest.ensures ∙ c.if-bad_greatest.false) refl))
+    firm_passes c.args.k c.in_ok-check_seller_status.ensures c.displacing.ensures
+    c.firm.ensures c.row.ensures.words c.row.ensures.size c.row.ensures.n c.row_of.ensures (simp c.if-not-firm.false)
+    (skip _ _ _ _ (sym c.bad_greatest.ensures ∙ c.if-bad_greatest.false) refl)

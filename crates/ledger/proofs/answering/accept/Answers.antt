@@ -1,9 +1,8 @@
 use Rattle.std.proofs.Common.{ℕ, sym, subst, arith}
-use mathlib.Core.Logic.{◌≢◌}
 use Rattle.rules.proofs.Passed.{PostPassed}
 use Rattle.rules.proofs.Soundness.{number_passed, both_facts}
 use Rattle.paths.specs.Exceeding.{Postings}
-use Rattle.ledger.proofs.Laws.{by_either, coded, both_at, passes_of, post_asks, postings_stay, posting_leaves}
+use Rattle.ledger.proofs.Laws.{coded, names_row, both_at, passes_of, post_asks, postings_stay, posting_leaves}
 use Rattle.ledger.proofs.answering.accept.Goals as goal
 
 pub size_of-size-requires : goal.size_of-size-requires
@@ -28,16 +27,7 @@ pub accept_named-requires : goal.accept_named-requires
 accept_named-requires c =
     record {
       passes = passes_of c.args.l.now c.args.postings.now c.args.known.request.words.now c.args.known.request.action c.size_of-size.ensures c.requires.0 c.requires.1;
-      kind =
-          by_either c.in-SellerStatus.is
-          (λ e. (λ q. omega (arith, q, coded c.args.known e), λ q. omega (arith, q, coded c.args.known e), λ q. omega (arith, q, coded c.args.known e)))
-          (λ r. by_either r
-          (λ e. (λ q. omega (arith, q, coded c.args.known e), λ q. omega (arith, q, coded c.args.known e), λ q. omega (arith, q, coded c.args.known e)))
-          (λ s. by_either s
-          (λ e. (λ q. omega (arith, q, coded c.args.known e), λ q. omega (arith, q, coded c.args.known e), λ q. omega (arith, q, coded c.args.known e)))
-          (λ t. by_either t
-          (λ e. (λ q. omega (arith, q, coded c.args.known e), λ q. omega (arith, q, coded c.args.known e), λ q. omega (arith, q, coded c.args.known e)))
-          (λ e. (λ q. omega (arith, q, coded c.args.known e), λ q. omega (arith, q, coded c.args.known e), λ q. omega (arith, q, coded c.args.known e))))));
+      kind = names_row c.args.known c.in-SellerStatus.is;
     }
 
 pub returns-in-Submit : goal.returns-in-Submit
@@ -62,14 +52,4 @@ returns-in-Post c =
 pub returns-in-SellerStatus : goal.returns-in-SellerStatus
 returns-in-SellerStatus c =
     let e = rw c.size_of-size.ensures.hours at c.accept_named.ensures in
-    let no8 : c.args.known.request.action.kind ≢ 8 =
-    by_either c.in-SellerStatus.is
-    (λ e q. omega (arith, q, coded c.args.known e))
-    (λ r. by_either r
-    (λ e q. omega (arith, q, coded c.args.known e))
-    (λ s. by_either s
-    (λ e q. omega (arith, q, coded c.args.known e))
-    (λ t. by_either t
-    (λ e q. omega (arith, q, coded c.args.known e))
-    (λ e q. omega (arith, q, coded c.args.known e))))) in
-    record { answer = e.answer; ledger = e.ledger; postings = postings_stay _ c.args.postings.now c.args.known.request.words.now c.args.known.request.action no8 }
+    record { answer = e.answer; ledger = e.ledger; postings = postings_stay _ c.args.postings.now c.args.known.request.words.now c.args.known.request.action (names_row c.args.known c.in-SellerStatus.is).2 }

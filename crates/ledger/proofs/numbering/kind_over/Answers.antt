@@ -1,5 +1,4 @@
-use Rattle.std.proofs.Common.{arith}
-use Rattle.ledger.proofs.Laws.{by_either, coded, seller_none, customer_none, reduce_none, lapse_none, seller_over, customer_over, reduce_over, lapse_over, over_none}
+use Rattle.ledger.proofs.Laws.{coded, carries_none, seller_none, customer_none, reduce_none, lapse_none, seller_over, customer_over, reduce_over, lapse_over, over_none}
 use Rattle.ledger.proofs.numbering.kind_over.Goals as goal
 
 pub seller_over-requires : goal.seller_over-requires
@@ -29,10 +28,5 @@ returns-in-Lapse c = lapse_over _ _ _ _ (coded c.args.known c.in-Lapse.is) c.lap
 pub returns-in-Submit : goal.returns-in-Submit
 returns-in-Submit c =
     let none = over_none c.args.ledger.sound_at c.args.known.request.words.now c.args.known.request.action c.requires in
-    by_either c.in-Submit.is
-    (λ e. none (λ q. omega (arith, q, coded c.args.known e)) (λ q. omega (arith, q, coded c.args.known e)) (λ q. omega (arith, q, coded c.args.known e)) (λ q. omega (arith, q, coded c.args.known e)))
-    (λ r. by_either r
-    (λ e. none (λ q. omega (arith, q, coded c.args.known e)) (λ q. omega (arith, q, coded c.args.known e)) (λ q. omega (arith, q, coded c.args.known e)) (λ q. omega (arith, q, coded c.args.known e)))
-    (λ t. by_either t
-    (λ e. none (λ q. omega (arith, q, coded c.args.known e)) (λ q. omega (arith, q, coded c.args.known e)) (λ q. omega (arith, q, coded c.args.known e)) (λ q. omega (arith, q, coded c.args.known e)))
-    (λ e. none (λ q. omega (arith, q, coded c.args.known e)) (λ q. omega (arith, q, coded c.args.known e)) (λ q. omega (arith, q, coded c.args.known e)) (λ q. omega (arith, q, coded c.args.known e)))))
+    let n = carries_none c.args.known c.in-Submit.is in
+    none n.0 n.1 n.2 n.3

@@ -1,5 +1,4 @@
-use Rattle.std.proofs.Common.{arith}
-use Rattle.ledger.proofs.Laws.{by_either, coded, seller_none, customer_none, approve_waits, lapse_waits, post_asks}
+use Rattle.ledger.proofs.Laws.{coded, uses_none, seller_none, customer_none, approve_waits, lapse_waits, post_asks}
 use Rattle.ledger.proofs.Uses.{seller_uses_lem, customer_uses, approve_uses, lapse_uses, post_uses, rest_uses}
 use Rattle.ledger.proofs.numbering.kind_uses.Goals as goal
 
@@ -36,8 +35,5 @@ returns-in-Post c = post_uses c.args.posted.ledger.sound_at _ _ _ c.requires (co
 pub returns-in-Submit : goal.returns-in-Submit
 returns-in-Submit c =
     let none = rest_uses c.args.posted.ledger.sound_at c.args.known.request.words.now c.args.posted.postings.now c.args.known.request.action c.requires in
-    by_either c.in-Submit.is
-    (λ e. none (λ q. omega (arith, q, coded c.args.known e)) (λ q. omega (arith, q, coded c.args.known e)) (λ q. omega (arith, q, coded c.args.known e)) (λ q. omega (arith, q, coded c.args.known e)) (λ q. omega (arith, q, coded c.args.known e)))
-    (λ r. by_either r
-    (λ e. none (λ q. omega (arith, q, coded c.args.known e)) (λ q. omega (arith, q, coded c.args.known e)) (λ q. omega (arith, q, coded c.args.known e)) (λ q. omega (arith, q, coded c.args.known e)) (λ q. omega (arith, q, coded c.args.known e)))
-    (λ e. none (λ q. omega (arith, q, coded c.args.known e)) (λ q. omega (arith, q, coded c.args.known e)) (λ q. omega (arith, q, coded c.args.known e)) (λ q. omega (arith, q, coded c.args.known e)) (λ q. omega (arith, q, coded c.args.known e))))
+    let n = uses_none c.args.known c.in-Submit.is in
+    none n.0 n.1 n.2 n.3 n.4

@@ -3,8 +3,8 @@ use Rattle.paths.specs.Exceeding.{Annuls}
 use Rattle.paths.proofs.Changed.{as_lent, at_cong, annulling_fits, use_annulling_lem}
 use Rattle.paths.proofs.exceeding.exceeds_annulling.Goals as goal
 
-pub invariant_of-walk : goal.invariant_of-walk
-invariant_of-walk c =
+pub invariant_of-exceeds_at : goal.invariant_of-exceeds_at
+invariant_of-exceeds_at c =
     let s = c.args.posted.ledger.sound_at in
     let r = c.reservation in
     let k = as_lent (λ h l n. Annuls h l n c.annulling-change.result) r.result.row r.ensures c.annulling-change.ensures in

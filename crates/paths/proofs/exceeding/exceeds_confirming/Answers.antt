@@ -3,8 +3,8 @@ use Rattle.paths.specs.Exceeding.{Confirms}
 use Rattle.paths.proofs.Changed.{as_lent, at_cong, confirming_fits, use_confirming_lem}
 use Rattle.paths.proofs.exceeding.exceeds_confirming.Goals as goal
 
-pub invariant_of-walk : goal.invariant_of-walk
-invariant_of-walk c =
+pub invariant_of-exceeds_at : goal.invariant_of-exceeds_at
+invariant_of-exceeds_at c =
     let s = c.args.posted.ledger.sound_at in
     let q = c.requires in
     let r = c.reservation in
