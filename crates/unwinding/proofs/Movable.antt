@@ -8,10 +8,8 @@ use lib.ListN.{length}
 use Rattle.words.specs.Lists.{word_at}
 use Rattle.words.proofs.Laws.{Passing, passing_start, passing_turn, passing_done, passing_fails}
 use Rattle.rules.specs.Pick.{pick}
-use Rattle.rules.specs.Layout.{used, row_of, issued, related_row}
-use Rattle.rules.proofs.SoundFacts.{range}
+use Rattle.rules.specs.Layout.{used, row_of, related_row}
 use Rattle.rules.proofs.Unwound.{adding, none, gone_at}
-use Rattle.unwinding.specs.declared.rows.Rows.{Rows}
 use Rattle.unwinding.specs.Order.{movable, all_movable, gives_late}
 use Rattle.unwinding.specs.Marks.{marked, Marks, Late}
 use Rattle.unwinding.proofs.Passes.{movable_row}
