@@ -12,18 +12,20 @@ struct Layout {
 }
 
 impl Layout {
-    // None where the words are too few for a head, or the hours too many. A line may name any row that some ledger has.
-    fn of(ledger: &[u32]) -> Option<Layout> {
-        let hours = *ledger.get(..HEAD_WORDS)?.get(HOURS)?;
-        if MOST_HOURS < hours {
-            return None;
-        }
-        Some(Layout {
+    // No hours where the words are too few for a head, or the hours too many. A line may name any row that some ledger
+    // has.
+    fn of(ledger: &[u32]) -> Layout {
+        let head = ledger.get(..HEAD_WORDS);
+        let hours = match head.and_then(|head| head.get(HOURS)) {
+            Some(hours) if *hours <= MOST_HOURS => *hours,
+            _ => 0,
+        };
+        Layout {
             size: Size {
                 rows: MOST_ROWS as usize,
                 hours: hours as usize,
             },
-        })
+        }
     }
 
     // Where the row of a reference starts.
@@ -78,7 +80,7 @@ pub fn words_named<'a>(ledger: &'a [u32], verb: &str, fields: &[u32]) -> Option<
     match fields {
         [] if verb == "head" => ledger.get(..HEAD_WORDS),
         [reference] => {
-            let layout = Layout::of(ledger)?;
+            let layout = Layout::of(ledger);
             let row = ledger.get(layout.row_start(*reference)?..)?;
             row.get(layout.part_of_row(verb)?)
         }
@@ -88,13 +90,13 @@ pub fn words_named<'a>(ledger: &'a [u32], verb: &str, fields: &[u32]) -> Option<
 
 // The word at a place in the row of a reference, or in what follows it.
 pub fn word_of_row_mut(ledger: &mut [u32], reference: u32, place: u32) -> Option<&mut u32> {
-    let start = Layout::of(ledger)?.row_start(reference)?;
+    let start = Layout::of(ledger).row_start(reference)?;
     ledger.get_mut(start..)?.get_mut(place as usize)
 }
 
 // The postings of a path.
 pub fn postings_of<'a>(ledger: &[u32], postings: &'a [u32], path: u32) -> Option<&'a [u32]> {
-    let layout = Layout::of(ledger)?;
+    let layout = Layout::of(ledger);
     let from_path = postings.get(layout.postings_start(path)?..)?;
     from_path.get(..layout.size.hours)
 }
@@ -106,7 +108,7 @@ pub fn posting_mut<'a>(
     path: u32,
     hour: u32,
 ) -> Option<&'a mut u32> {
-    let layout = Layout::of(ledger)?;
+    let layout = Layout::of(ledger);
     let hour = hour as usize;
     if layout.size.hours <= hour {
         return None;

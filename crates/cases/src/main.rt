@@ -12,11 +12,14 @@ mod text;
 
 use perform::{Desk, Shown};
 use report::{Counts, Difference, Place, Unfit};
-use std::alloc::Global;
+use std::alloc::{AllocError, Global};
 use std::fmt::Display;
 use std::io;
 use std::io::Read;
 use text::Line;
+
+// A script of so many bytes is too long: no more of it is read.
+const SCRIPT_BYTES: usize = 524288;
 
 // The ledger and the postings, and the counts so far.
 #[derive(Drop)]
@@ -26,11 +29,11 @@ struct Run {
 }
 
 impl Run {
-    fn new(alloc: Global) -> Run {
-        Run {
-            desk: Desk::new(alloc),
+    fn new(alloc: Global) -> Result<Run, AllocError> {
+        Ok(Run {
+            desk: Desk::new(alloc)?,
             counts: Counts::default(),
-        }
+        })
     }
 
     // A line carried out. An action is counted also where it altered what must stay.
@@ -82,19 +85,30 @@ impl Run {
             }
             self.run_line(rt, Place { case, line })?;
         }
+        // This failure stands at no line.
+        if script.len() == SCRIPT_BYTES {
+            let place = Place {
+                case: b"",
+                line: b"",
+            };
+            self.fail(rt, place, &Unfit::LongScript)?;
+        }
         Ok(())
     }
 }
 
+// The script on standard input, as far as it is read.
 fn read_script(rt: &(impl Input + AllocGlobal)) -> io::Result<Vec<u8>> {
     let mut script = Vec::new(rt.alloc());
-    rt.reader().read_to_end(&mut script)?;
+    rt.reader()
+        .take(SCRIPT_BYTES as u64)
+        .read_to_end(&mut script)?;
     Ok(script)
 }
 
 fn main(rt: HostRuntime) -> io::Result<()> {
     let script = read_script(&rt)?;
-    let mut run = Run::new(rt.alloc());
+    let mut run = Run::new(rt.alloc())?;
     run.run_script(&rt, &script)?;
     let counts = run.counts;
     println!(&rt; "{counts}")

@@ -1,12 +1,17 @@
 // A line carried out on the words that are lent.
 use crate::lent::Lent;
 use crate::report::Unfit;
-use crate::text::{Line, exactly};
+use crate::text::{Line, MOST_NUMBERS, exactly};
 use crate::{ask, look};
 use layout::create::Creation;
 use layout::numbers::DISPLACED;
 use rules::{Action, Answer, Contest, Kind, number_of};
 use std::alloc::{AllocError, Global};
+
+// The longest ledger and the longest postings that are lent.
+const LEDGER_WORDS: usize = 24576;
+
+const POSTINGS_WORDS: usize = 49152;
 
 // A charge is shown as its millions of cents and the rest.
 const MILLION: u64 = 1000000;
@@ -51,11 +56,11 @@ pub struct Desk {
 }
 
 impl Desk {
-    pub fn new(alloc: Global) -> Desk {
-        Desk {
-            ledger: Lent::new(alloc),
-            postings: Lent::new(alloc),
-        }
+    pub fn new(alloc: Global) -> Result<Desk, AllocError> {
+        Ok(Desk {
+            ledger: Lent::new(alloc, LEDGER_WORDS)?,
+            postings: Lent::new(alloc, POSTINGS_WORDS)?,
+        })
     }
 
     pub fn perform(&mut self, alloc: Global, line: &Line) -> Result<Shown, Unfit> {
@@ -92,8 +97,8 @@ impl Desk {
             "open" => numbers.push(self.open(fields)?)?,
             "annuls" => numbers.push(u32::from(self.annuls(fields)))?,
             "charge" => numbers.extend_from_slice(&self.charge(fields)?)?,
-            "altered" => numbers.push(u32::try_from(self.ledger.altered())?)?,
-            "altered-postings" => numbers.push(u32::try_from(self.postings.altered())?)?,
+            "altered" => numbers.push(self.ledger.altered())?,
+            "altered-postings" => numbers.push(self.postings.altered())?,
             _ => numbers.extend_from_slice(self.words_named(verb, fields)?)?,
         }
         Ok(numbers)
@@ -102,7 +107,7 @@ impl Desk {
     // A length for the ledger.
     fn lend_ledger(&mut self, fields: &[u32]) -> Result<(), Unfit> {
         let [count] = exactly::<1>(fields)?;
-        self.ledger.lend(count)?;
+        self.ledger.lend(count).ok_or(Unfit::LongLedger)?;
         Ok(())
     }
 
@@ -111,13 +116,14 @@ impl Desk {
         let ([count, megawatts], []) = (fields, expected) else {
             return Err(Unfit::Unreadable);
         };
-        self.postings.lend(*count)?.fill(*megawatts);
+        let postings = self.postings.lend(*count).ok_or(Unfit::LongPostings)?;
+        postings.fill(*megawatts);
         Ok(())
     }
 
-    fn keep_copies(&mut self) -> Result<(), AllocError> {
-        self.ledger.keep_copy()?;
-        self.postings.keep_copy()
+    fn keep_copies(&mut self) {
+        self.ledger.keep_copy();
+        self.postings.keep_copy();
     }
 
     // All words are as their copies, but for those that may have been altered.
@@ -133,7 +139,7 @@ impl Desk {
     // A refusal must alter nothing. The postings are no part of it.
     fn create(&mut self, fields: &[u32]) -> Result<u32, Unfit> {
         let [rows, hours, provider, window, base] = exactly::<5>(fields)?;
-        self.ledger.keep_copy()?;
+        self.ledger.keep_copy();
         let ledger = self.ledger.words_mut();
         let new = Creation {
             rows,
@@ -157,7 +163,7 @@ impl Desk {
 
     // A refusal must alter nothing, a posting no word of the ledger, and any other action no posting.
     fn act(&mut self, action: Action, profile: &[u32]) -> Result<Answer, Unfit> {
-        self.keep_copies()?;
+        self.keep_copies();
         let answer = self.answer_action(action, profile);
         self.check_copies(match (answer.number, Kind::try_from(action.kind)) {
             (0, Ok(Kind::Post)) => MayAlter::Postings,
@@ -183,7 +189,7 @@ impl Desk {
             challenger,
             holder,
         };
-        self.keep_copies()?;
+        self.keep_copies();
         let answer = self.answer_contest(terms, moves, replies);
         self.check_copies(match answer.after {
             DISPLACED => MayAlter::Ledger,
@@ -223,7 +229,7 @@ impl Desk {
         readout::profile_in_force(self.ledger.words(), reference)
     }
 
-    // The words of the ledger, or the postings, that a line names.
+    // The words of the ledger, or the postings, that a line names, where a line can have so many.
     fn words_named(&self, verb: &str, fields: &[u32]) -> Result<&[u32], Unfit> {
         let ledger = self.ledger.words();
         let words = match (verb, fields) {
@@ -231,7 +237,10 @@ impl Desk {
             ("posted", [path]) => look::postings_of(ledger, self.postings.words(), *path),
             _ => look::words_named(ledger, verb, fields),
         };
-        words.ok_or(Unfit::Unreadable)
+        match words {
+            Some(words) if words.len() <= MOST_NUMBERS => Ok(words),
+            _ => Err(Unfit::Unreadable),
+        }
     }
 
     // place in the head, word

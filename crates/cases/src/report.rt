@@ -4,11 +4,14 @@ use std::error::Error;
 use std::num::TryFromIntError;
 use std::{fmt, io};
 
-// Why a line is not carried out as it should be.
+// Why a line, or the rest of the script, is not carried out as it should be.
 #[derive(Clone, Copy, Debug, PartialEq, Eq)]
 pub enum Unfit {
     Unreadable,
     Altered,
+    LongLedger,
+    LongPostings,
+    LongScript,
     NoMemory(AllocError),
 }
 
@@ -17,6 +20,9 @@ impl fmt::Display for Unfit {
         f.write_str(match self {
             Unfit::Unreadable => "cannot be read",
             Unfit::Altered => "altered a word that must stay",
+            Unfit::LongLedger => "longer than any ledger here",
+            Unfit::LongPostings => "longer than any postings here",
+            Unfit::LongScript => "the script is too long",
             Unfit::NoMemory(_) => "out of memory",
         })
     }

@@ -3,7 +3,7 @@ use crate::report::Unfit;
 use std::alloc::Global;
 
 // At most so many numbers stand in one part of a line: a rule of the script, which its head states.
-const MOST_NUMBERS: usize = 32;
+pub const MOST_NUMBERS: usize = 32;
 
 // A line: its verb, and the numbers before a colon, those after it, and those after an equals sign.
 #[derive(Drop)]
@@ -38,11 +38,12 @@ fn split(text: &str, at: char) -> (&str, &str) {
     text.split_once(at).unwrap_or((text, ""))
 }
 
-// The decimal numbers of a text, between spaces.
+// The decimal numbers of a text, between spaces. One too many is enough to see that there are too many.
 fn numbers_in(alloc: Global, text: &str) -> Result<Vec<u32>, Unfit> {
     let numbers: Vec<u32> = text
         .split(' ')
         .filter(|word| !word.is_empty())
+        .take(MOST_NUMBERS + 1)
         .map(number)
         .try_collect(alloc)?;
     if MOST_NUMBERS < numbers.len() {

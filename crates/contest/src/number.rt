@@ -1,5 +1,6 @@
 // The checks of a contest before its moves.
-ghost use Rattle.std.specs.Prelude.{◌≡◌};
+ghost use Rattle.std.specs.Prelude.{◌≡◌, not};
+ghost use Rattle.rules.specs.Sound.{firm as is_firm};
 ghost use Rattle.rules.specs.Contest.{present, bad_greatest, displacing as displacing_of, contest_checks, contest_number};
 ghost use Rattle.rules.specs.Refusals.{number_of};
 
@@ -10,6 +11,7 @@ use layout::create::is_from;
 use layout::entry::Entry;
 use layout::ledger::Ledger;
 use layout::numbers::DISPLACED;
+use layout::row::Row;
 use layout::sound::{size_of, sound_both};
 use ledger::numbering::check_common;
 use rules::{Action, Contest, Kind, Reference, Refusal};
@@ -45,6 +47,13 @@ fn bad_greatest(c: Contested) -> bool
     !is_from(k.challenger, 1, most) || (!is_from(k.holder, 1, most) || k.holder < present)
 }
 
+// No contest is for a row that is not firm.
+fn not_firm(row: Row) -> bool
+    ensures { let r = row.entry in result ≡ not (is_firm r.size.hours r.words.now r.n) }
+{
+    !firm(row)
+}
+
 // The checks of a sound ledger. A displacement reads no profile.
 fn check_sound(ledger: Ledger, k: Contest) -> Result<(), Refusal>
     ensures { let l = ledger.entry in number_of result ≡ contest_checks l.size.hours l.words.now k }
@@ -58,7 +67,7 @@ fn check_sound(ledger: Ledger, k: Contest) -> Result<(), Refusal>
         ledger,
         n: rules::row_of(Reference(k.reference)).0,
     };
-    if !firm(row.row()) {
+    if not_firm(row.row()) {
         return Err(Refusal::WrongMove);
     }
     if bad_greatest(Contested { row, contest: k }) {

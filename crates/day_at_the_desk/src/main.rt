@@ -5,7 +5,6 @@
 use layout::create::Creation;
 use layout::numbers::*;
 use rules::{Action, Answer, Kind};
-use std::alloc::Global;
 use std::ops::Range;
 use std::{fmt, io};
 
@@ -47,7 +46,7 @@ const SECOND_RESALE: &[u32] = &[1];
 
 const GIVEN_UP: &[u32] = &[20];
 
-// An action, and the profile that comes with it. Where this lies in the words lent is told by `Batch`.
+// An action, and the profile that comes with it: the whole of the words that are lent.
 #[derive(Clone, Copy)]
 struct Request<'a> {
     action: Action,
@@ -174,69 +173,33 @@ fn annul(seller: u32, reference: u32) -> Request<'static> {
     name_status(Kind::SellerStatus, seller, reference, ANNULLED, 0)
 }
 
-// Actions in their order, and the words that a host lends with them: their profiles, one after the other.
-#[derive(Drop)]
-struct Batch {
-    actions: Vec<Action>,
-    words: Vec<u32>,
-}
-
-impl Batch {
-    fn new(alloc: Global, requests: &[Request]) -> io::Result<Batch> {
-        let mut batch = Batch {
-            actions: Vec::new(alloc),
-            words: Vec::new(alloc),
-        };
-        for request in requests {
-            batch.add(*request)?;
-        }
-        Ok(batch)
-    }
-
-    // An action after the others. Its profile starts where the words end so far.
-    fn add(&mut self, request: Request) -> io::Result<()> {
-        let offset = word(self.words.len())?;
-        let length = word(request.profile.len())?;
-        self.words.extend_from_slice(request.profile)?;
-        self.actions.push(Action {
-            offset,
-            length,
-            ..request.action
-        })?;
-        Ok(())
-    }
-}
-
 // A length as a word of an action.
 fn word(length: usize) -> io::Result<u32> {
     u32::try_from(length).map_err(|_| io::Error::from(io::ErrorKind::InvalidInput))
 }
 
 // What is posted before the day.
-fn posted_before(alloc: Global) -> io::Result<Batch> {
-    Batch::new(alloc, &[post(FIRST_PATH), post(SECOND_PATH)])
+fn posted_before() -> [Request<'static>; 2] {
+    [post(FIRST_PATH), post(SECOND_PATH)]
 }
 
-fn day(alloc: Global) -> io::Result<Batch> {
-    Batch::new(
-        alloc,
-        &[
-            submit_original(10, Terms::new(0..4, 500, ORIGINAL)),
-            accept(1, 1, 500),
-            confirm(10, 1, 500),
-            submit_resale(20, 10, 1, Terms::new(1..3, 700, FIRST_RESALE)),
-            accept(10, 2, 700),
-            submit_there(10, NONFIRM_REDIRECT, 1, Terms::new(2..4, 0, REDIRECT)),
-            accept(1, 3, 0),
-            submit_resale(30, 10, 1, Terms::new(2..3, 0, SECOND_RESALE)),
-            accept(10, 4, 0),
-            displace(1, 1),
-            submit_there(10, RELINQUISH, 3, Terms::new(3..4, 0, GIVEN_UP)),
-            accept(1, 5, 0),
-            annul(10, 2),
-            annul(1, 3),
-        ],
-    )
+fn day() -> [Request<'static>; 14] {
+    [
+        submit_original(10, Terms::new(0..4, 500, ORIGINAL)),
+        accept(1, 1, 500),
+        confirm(10, 1, 500),
+        submit_resale(20, 10, 1, Terms::new(1..3, 700, FIRST_RESALE)),
+        accept(10, 2, 700),
+        submit_there(10, NONFIRM_REDIRECT, 1, Terms::new(2..4, 0, REDIRECT)),
+        accept(1, 3, 0),
+        submit_resale(30, 10, 1, Terms::new(2..3, 0, SECOND_RESALE)),
+        accept(10, 4, 0),
+        displace(1, 1),
+        submit_there(10, RELINQUISH, 3, Terms::new(3..4, 0, GIVEN_UP)),
+        accept(1, 5, 0),
+        annul(10, 2),
+        annul(1, 3),
+    ]
 }
 
 // The line of an action: its place in the day, from 1, and the answer.
@@ -260,8 +223,8 @@ impl fmt::Display for Line {
     }
 }
 
-// The words of the ledger and of the postings. They are arrays and no Vec: the library has no heap and needs none, so a
-// host gives it words that it has, of a size that it knows.
+// The words of the ledger and of the postings. They are arrays and no Vec, as is the day: the library has no heap and
+// needs none, so a host gives it words that it has, of a size that it knows, and nothing here runs out of memory.
 #[derive(Drop)]
 struct Desk {
     ledger: [u32; LEDGER_WORDS],
@@ -280,16 +243,21 @@ impl Desk {
         }
     }
 
-    // An action, with the words that its profile is part of.
-    fn act(&mut self, words: &[u32], action: Action) -> Answer {
-        ledger::act(&mut self.ledger, &mut self.postings, words, action)
+    fn act(&mut self, request: Request) -> io::Result<Answer> {
+        let action = Action {
+            offset: 0,
+            length: word(request.profile.len())?,
+            ..request.action
+        };
+        let Desk { ledger, postings } = self;
+        Ok(ledger::act(ledger, postings, request.profile, action))
     }
 }
 
 // Carries out what comes before the day. It has no lines, but one for each refusal, as action 0.
-fn carry_out_before(rt: &impl Print, desk: &mut Desk, batch: &Batch) -> io::Result<()> {
-    for action in &batch.actions {
-        let answer = desk.act(&batch.words, *action);
+fn carry_out_before(rt: &impl Print, desk: &mut Desk, requests: &[Request]) -> io::Result<()> {
+    for request in requests {
+        let answer = desk.act(*request)?;
         if answer.number != 0 {
             rt.println(Line { place: 0, answer })?;
         }
@@ -298,9 +266,9 @@ fn carry_out_before(rt: &impl Print, desk: &mut Desk, batch: &Batch) -> io::Resu
 }
 
 // Carries each action out, and prints its line.
-fn carry_out(rt: &impl Print, desk: &mut Desk, batch: &Batch) -> io::Result<()> {
-    for (n, action) in batch.actions.iter().enumerate() {
-        let answer = desk.act(&batch.words, *action);
+fn carry_out(rt: &impl Print, desk: &mut Desk, requests: &[Request]) -> io::Result<()> {
+    for (n, request) in requests.iter().enumerate() {
+        let answer = desk.act(*request)?;
         rt.println(Line {
             place: n + 1,
             answer,
@@ -311,6 +279,6 @@ fn carry_out(rt: &impl Print, desk: &mut Desk, batch: &Batch) -> io::Result<()> 
 
 fn main(rt: HostRuntime) -> io::Result<()> {
     let mut desk = Desk::new();
-    carry_out_before(&rt, &mut desk, &posted_before(rt.alloc())?)?;
-    carry_out(&rt, &mut desk, &day(rt.alloc())?)
+    carry_out_before(&rt, &mut desk, &posted_before())?;
+    carry_out(&rt, &mut desk, &day())
 }

@@ -8,7 +8,6 @@ use Rattle.words.specs.Lists.{splice}
 use Rattle.words.proofs.Laws.{lent, lent_length, lent_back, set_splice}
 use Rattle.rules.specs.Numbers.{row_words}
 use Rattle.rules.specs.Layout.{row_base, row_size, row, on_row, hour_at, hours_of, set_hours, Sized}
-use Rattle.rules.proofs.Seen.{Room}
 use Rattle.rules.proofs.Rows.{row_fits, row_length, on_splice}
 use Rattle.layout.specs.Places.{RowAt, HoursAt}
 

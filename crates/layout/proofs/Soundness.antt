@@ -1,16 +1,15 @@
 -- Laws behind the test of soundness.
-use mathlib.Core.Path.{◌≡◌, refl, sym, ap, subst, ◌∙◌}
+use mathlib.Core.Path.{◌≡◌, refl, sym, subst}
 use mathlib.Core.Bool.{Bool, true, false, ◌&&◌}
 use mathlib.Core.List.{List}
 use Prim.Native.Nat.{ℕ, ◌≤◌, ◌<◌}
 use native.Mathlib.Omega.{arith}
 use lib.Dec.{eqb}
 use lib.ListN.{length}
-use Rattle.words.specs.Lists.{all_below}
-use Rattle.rules.specs.Numbers.{head_words, profiles, most_hours}
+use Rattle.rules.specs.Numbers.{head_words, most_hours}
 use Rattle.rules.specs.Pick.{◌is_from◌to◌}
 use Rattle.rules.specs.Layout.{Sized, rows, hours, row_of, row_size, row, reqtype, related, start, stop, related_row}
-use Rattle.rules.specs.Sound.{sound, original, upward, relates, inside, sound_head, sound_words, sound_profile, sound_related}
+use Rattle.rules.specs.Sound.{sound, original, upward, relates, inside, sound_head, sound_words, sound_related}
 use Rattle.rules.proofs.Rows.{row_least}
 use Rattle.words.proofs.Laws.{and_left}
 use Rattle.rules.proofs.SoundFacts.{SoundHead, head_sized, head_facts, words_facts}

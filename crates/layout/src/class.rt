@@ -49,19 +49,23 @@ pub fn relates(t: u32, u: u32) -> bool
     u != NONFIRM_REDIRECT && u != RELINQUISH
 }
 
-// Whether a row is firm, up the chain of related rows.
+// Whether a row is firm, up the chain of related rows. A loop, and no call of itself: a chain may have all rows, and each
+// call would keep its own words on the stack.
 pub fn firm(row: Row) -> bool
     ensures { let r = row.entry in result ≡ is_firm r.size.hours r.words.now r.n }
 {
-    let t = row.word(REQTYPE);
-    if is_firm_type(t) {
-        return true;
-    }
-    if !is_resold(t) {
-        return false;
-    }
-    match Reference(row.word(RELATED)).row(row.n) {
-        None => false,
-        Some(above) => firm(row.at(above.0)),
+    let mut at = row;
+    loop {
+        let t = at.word(REQTYPE);
+        if is_firm_type(t) {
+            return true;
+        }
+        if !is_resold(t) {
+            return false;
+        }
+        match Reference(at.word(RELATED)).row(at.n) {
+            None => return false,
+            Some(above) => at = row.at(above.0),
+        }
     }
 }

@@ -14,6 +14,7 @@ pub struct Entry<'a> {
 }
 
 impl<'a> Entry<'a> {
+    #[inline(always)]
     pub fn row(self) -> Row<'a>
         ensures words { result.words.now ≡ self.entry.ledger.words.now }
         ensures size { result.size ≡ self.entry.ledger.size }
@@ -22,6 +23,7 @@ impl<'a> Entry<'a> {
         self.reservation().row
     }
 
+    #[inline(always)]
     pub fn reservation(self) -> Reservation<'a>
         ensures words { result.row.words.now ≡ self.entry.ledger.words.now }
         ensures size { result.row.size ≡ self.entry.ledger.size }

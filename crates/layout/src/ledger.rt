@@ -21,6 +21,7 @@ pub struct Ledger<'a> {
 
 impl<'a> Ledger<'a> {
     // How many rows are in use.
+    #[inline(always)]
     #[tactic(auto, using(crate::proofs::SoundAt::head_fits))]
     pub fn used(self) -> usize
         ensures { result ≡ used_rows self.entry.words.now }
@@ -29,6 +30,7 @@ impl<'a> Ledger<'a> {
     }
 
     // Row n, which is in use.
+    #[inline(always)]
     pub fn reservation(self, n: usize) -> Reservation<'a>
         requires { n < used_rows self.words.now }
         ensures words { result.row.words.now ≡ self.entry.words.now }

@@ -18,6 +18,7 @@ pub enum Profile {
 
 impl Profile {
     // Which of the five it is, from 0. No `From`, which could not say that there are five.
+    #[inline(always)]
     pub fn part(self) -> usize
         ensures value { result ≡ part_of self }
         ensures below { result < profiles }
@@ -26,6 +27,7 @@ impl Profile {
     }
 
     // Where hours of the profile start in a row.
+    #[inline(always)]
     pub fn hours_at(self, size: Size, start: usize, count: usize) -> usize
         requires { start + count ≤ size.hours }
         ensures { HoursAt size.hours (part_of self) start count result }

@@ -10,7 +10,7 @@ ghost use Rattle.layout.specs.Profiles.{part_of};
 ghost use Rattle.layout.specs.Placed.{Placed};
 
 use crate::class::is_original;
-use crate::numbers::{GRANTED_GIVEN, REQTYPE};
+use crate::numbers::{GRANTED_GIVEN, REQTYPE, START, STOP};
 use crate::profile::Profile;
 use crate::row::Row;
 use crate::size::Size;
@@ -48,14 +48,16 @@ impl<'a> Reservation<'a> {
     }
 
     // The hours of its span.
+    #[inline(always)]
     pub fn count(self) -> usize
         ensures is { result ≡ span_hours (own self.entry.row) }
         ensures most { result ≤ most_hours }
     {
-        self.row.count()
+        (self.row.word(STOP) - self.row.word(START)) as usize
     }
 
     // The span's hours of its profile p.
+    #[inline(always)]
     #[tactic(auto, unfolding(rules::specs::Layout::span))]
     pub fn span(self, p: Profile) -> &'a [u32]
         ensures is { let row = self.entry.row in result.now ≡ span row.size.hours (part_of p) (own row) }
@@ -86,6 +88,7 @@ impl<'a> Reservation<'a> {
     }
 
     // The reservation that it is related to.
+    #[inline(always)]
     pub fn related(self) -> Reservation<'a>
         requires { original (reqtype (own self.row)) ≡ false }
         ensures words { result.row.words.now ≡ self.entry.row.words.now }
@@ -96,6 +99,7 @@ impl<'a> Reservation<'a> {
     }
 
     // The same, or none of an original.
+    #[inline(always)]
     pub fn above(self) -> Option<Reservation<'a>>
         ensures { let row = self.entry.row in
             MatchOption result (original (reqtype (own row)) ≡ true) (λ r.

@@ -26,6 +26,7 @@ impl<'a> Row<'a> {
     ghost use Rattle.layout.specs.Rows.{own};
 
     // Its own words, with its profiles.
+    #[inline(always)]
     pub fn own(self) -> &'a [u32]
         ensures is { result.now ≡ own self.entry }
         ensures long { length result.now ≡ row_size self.entry.size.hours }
@@ -35,6 +36,7 @@ impl<'a> Row<'a> {
     }
 
     // Its word k.
+    #[inline(always)]
     pub fn word(self, k: usize) -> u32
         requires { k < row_words }
         ensures { result ≡ get_or (own self.entry) k 0 }
@@ -43,6 +45,7 @@ impl<'a> Row<'a> {
     }
 
     // Row m of the same words.
+    #[inline(always)]
     pub fn at(self, m: usize) -> Row<'a>
         requires { m < self.size.rows }
         ensures words { result.words.now ≡ self.entry.words.now }
@@ -56,6 +59,7 @@ impl<'a> Row<'a> {
         }
     }
 
+    #[inline(always)]
     #[tactic(auto, unfolding(rules::specs::Moves::is_confirmed))]
     pub fn is_confirmed(self) -> bool
         ensures { result ≡ is_confirmed (own self.entry) }
@@ -72,6 +76,7 @@ impl<'a> Row<'a> {
     }
 
     // The first hour of its span.
+    #[inline(always)]
     pub fn start(self) -> usize
         ensures { result ≡ start (own self.entry) }
     {
@@ -79,6 +84,7 @@ impl<'a> Row<'a> {
     }
 
     // The hours of its span: none where it stops before it starts.
+    #[inline(always)]
     pub fn count(self) -> usize
         ensures { result ≡ span_hours (own self.entry) }
     {
@@ -86,6 +92,7 @@ impl<'a> Row<'a> {
     }
 
     // The row that it is related to.
+    #[inline(always)]
     #[tactic(auto, unfolding(rules::specs::Layout::related_row))]
     pub fn related_row(self) -> usize
         ensures { let r = self.entry in result ≡ related_row r.size.hours r.words.now r.n }
@@ -94,6 +101,7 @@ impl<'a> Row<'a> {
     }
 
     // So many of its hours of profile p, from start on.
+    #[inline(always)]
     pub fn hours(self, p: Profile, start: usize, count: usize) -> &'a [u32]
         requires { start + count ≤ self.size.hours }
         ensures is { let hours = self.entry.size.hours in

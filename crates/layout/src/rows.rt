@@ -40,6 +40,33 @@ pub fn flag_raised(flags: u32, flag: u32) -> u32
     flags + flag
 }
 
+// Tests of hours of profile p of a row that is lent alone against v, from start on: v is at most them; v is they;
+// together they are at most 100,000.
+
+pub fn covers_hours(r: &[u32], size: Size, p: Profile, start: usize, v: &[u32]) -> bool
+    requires { Room size.hours start v.now r.now }
+    ensures { result ≡ covered v.now (hours_of size.hours (part_of p) start (length v.now) r.now) }
+{
+    let from = p.hours_at(size, start, v.len());
+    words::all_covered(v, &r[from..from + v.len()])
+}
+
+pub fn equals_hours(r: &[u32], size: Size, p: Profile, start: usize, v: &[u32]) -> bool
+    requires { Room size.hours start v.now r.now }
+    ensures { result ≡ equal v.now (hours_of size.hours (part_of p) start (length v.now) r.now) }
+{
+    let from = p.hours_at(size, start, v.len());
+    words::all_equal(v, &r[from..from + v.len()])
+}
+
+pub fn room_hours(r: &[u32], size: Size, p: Profile, start: usize, v: &[u32]) -> bool
+    requires { Room size.hours start v.now r.now }
+    ensures { result ≡ roomy most_megawatts v.now (hours_of size.hours (part_of p) start (length v.now) r.now) }
+{
+    let from = p.hours_at(size, start, v.len());
+    words::all_roomy(MOST_MEGAWATTS, v, &r[from..from + v.len()])
+}
+
 // Writes of hours of profile p, from start on: they become v, or 0; v is taken off, or added. One call each: a closure
 // that writes would carry clauses longer than they are.
 

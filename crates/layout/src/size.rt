@@ -15,6 +15,7 @@ pub struct Size {
 
 impl Size {
     // Words of a row, with its profiles.
+    #[inline(always)]
     pub fn row_words(self) -> usize
         ensures { result ≡ row_size self.hours }
     {
@@ -22,6 +23,7 @@ impl Size {
     }
 
     // Where row n starts.
+    #[inline(always)]
     pub fn row_at(self, n: usize) -> usize
         requires { n < self.rows }
         ensures { RowAt self.rows self.hours n result }

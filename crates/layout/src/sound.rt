@@ -52,6 +52,7 @@ fn head_size(l: &[u32]) -> Size
 }
 
 // The sixteen words of a row.
+#[inline(always)]
 fn sound_words(row: Row) -> bool
     ensures { result ≡ sound_words row.entry.size.hours (own row.entry) }
 {
@@ -73,6 +74,7 @@ fn sound_words(row: Row) -> bool
 }
 
 // Profile p: 0 before the span, at most 100,000 in it, 0 after it.
+#[inline(always)]
 fn sound_profile(row: Row, p: Profile) -> bool
     requires { Spanned row.size.hours (own row) }
     ensures { result ≡ sound_profile row.entry.size.hours (own row.entry) (part_of p) }
@@ -89,10 +91,10 @@ fn sound_profiles(row: Row) -> bool
     ensures { result ≡ all_below profiles (λ p. sound_profile row.entry.size.hours (own row.entry) p) }
 {
     sound_profile(row, Profile::Requested)
-        & sound_profile(row, Profile::Granted)
-        & sound_profile(row, Profile::Available)
-        & sound_profile(row, Profile::Displaced)
-        & sound_profile(row, Profile::Reduced)
+        && (sound_profile(row, Profile::Granted)
+            && (sound_profile(row, Profile::Available)
+                && (sound_profile(row, Profile::Displaced)
+                    && sound_profile(row, Profile::Reduced))))
 }
 
 // Whether hours from first up to past lie inside the span of row r.
@@ -113,6 +115,7 @@ fn sound_link(r: &[u32], above: &[u32]) -> bool
 }
 
 // A row, and the row that it is related to.
+#[inline(always)]
 fn sound_related(row: Row) -> bool
     ensures { let r = row.entry in result ≡ sound_related r.size.hours r.words.now r.n }
 {

@@ -191,7 +191,7 @@ fn accept_clock(known: Known, l: &mut [u32], size: Size) -> Answer
 }
 
 // An action that passed every check, by its kind. A posting gives five zeros too; it alone writes the postings.
-pub(crate) fn accept(known: Known, l: &mut [u32], postings: &mut [u32]) -> Answer
+pub fn accept(known: Known, l: &mut [u32], postings: &mut [u32]) -> Answer
     requires { (sound_both l.old postings.old ≡ true)
         × (number true l.old postings.old known.request.words.now known.request.action ≡ 0) }
     ensures answer { let asked = known.entry.request in

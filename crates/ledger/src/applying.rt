@@ -9,7 +9,7 @@ use layout::size::Size;
 use rules::Kind;
 
 // By the kind, as the checks.
-pub(crate) fn apply(known: Known, l: &mut [u32], size: Size)
+pub fn apply(known: Known, l: &mut [u32], size: Size)
     requires sound_at { SoundAt l.old size.rows size.hours }
     requires a_value { kind_number size.hours l.old known.request.words.now known.request.action ≡ 0 }
     requires a_value_2 { carries_over size.hours (kind_after size.hours l.old known.request.words.now known.request.action) ≡ false }

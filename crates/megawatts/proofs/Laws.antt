@@ -7,7 +7,6 @@ use Prim.Native.Nat.{ℕ, ◌+◌, ◌-◌, ◌<◌, ◌≤◌}
 use native.Mathlib.Omega.{arith}
 use lib.Dec.{leb, lit<}
 use lib.ListN.{length, get_or, take, drop}
-use borrow.Author.Rules.{rules}
 use borrow.Author.Tests.{not-false, le-leb}
 use Rattle.words.specs.Lists.{part, splice, zip2, covered, roomy, most_word, Apart}
 use Rattle.words.proofs.Laws.{lt_or_le, lent, part_length, all_below_lem, roomy_at, zip_length}
@@ -22,7 +21,7 @@ use Rattle.rules.proofs.Writes.{returns_profile}
 use Rattle.rules.proofs.Over.{full, over_annulling, over_displacing, over_reducing}
 use Rattle.layout.specs.Places.{HoursAt}
 use Rattle.layout.specs.Placed.{Placed}
-use Rattle.layout.proofs.Placed.{sized, in_rows, own_words, own_hours, own_length, span_fits, span_length, room, type_three, spanned_as}
+use Rattle.layout.proofs.Placed.{sized, in_rows, own_words, span_fits, span_length}
 use Rattle.megawatts.specs.Places.{HoursIn}
 
 -- ---- tests

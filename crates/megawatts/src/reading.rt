@@ -26,6 +26,9 @@ pub fn span_at(r: Reservation, p: Profile) -> usize
     hours_in(r.row, p, r.row.start(), r.count())
 }
 
+// A call of its own: where it is put into its caller, whose `out` nothing else can be, the compiler makes it a `memcpy`,
+// which whoever links the library would have to bring.
+#[inline(never)]
 pub fn copy_in_force(out: &mut [u32], r: Reservation)
     requires { length out.old ≡ span_hours (own r.row) }
     ensures { let row = r.entry.row in out.new ≡ in_force row.size.hours (own row) }

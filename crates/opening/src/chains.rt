@@ -3,7 +3,7 @@ ghost use Rattle.std.specs.Prelude.{◌≡◌, ◌+◌, ◌<◌, ◌≤◌, leng
 ghost use Rattle.words.specs.Lists.{word_at, all_below, noughts};
 ghost use Rattle.words.specs.Sums.{Adds, Summed};
 ghost use Rattle.rules.specs.Layout.{used as used_rows};
-ghost use Rattle.opening.specs.Chains.{Chained, Unchained, chain_sum};
+ghost use Rattle.opening.specs.Chains.{Chained, Unchained, Falling, chain_sum};
 ghost use Rattle.opening.specs.Shares.{sum_of, balanced_by, most_share, Sums};
 
 use crate::sums::is_profile;
@@ -28,6 +28,41 @@ fn chain(lasts: &mut [u32], befores: &mut [u32], links: &[u32])
     }
 }
 
+// All used rows are linked and chained, whatever the words lent were.
+pub fn chain_rows<T: Test>(
+    links: &mut [u32],
+    lasts: &mut [u32],
+    befores: &mut [u32],
+    ledger: Ledger,
+)
+    requires links_len { length links.old ≡ used_rows ledger.words.now }
+    requires lasts_len { length lasts.old ≡ used_rows ledger.words.now + 1 }
+    requires befores_len { length befores.old ≡ used_rows ledger.words.now }
+    ensures { let l = ledger.entry in
+        Chained (T.link l.size.hours l.words.now) (used_rows l.words.now) lasts.new befores.new }
+{
+    T::link_rows(links, ledger);
+    words::clear(lasts);
+    chain(lasts, befores, links);
+}
+
+// The shares of the rows of a chain are added, from reference last on.
+pub fn add_chain<T: Test>(sums: &mut [u32], befores: &[u32], ledger: Ledger, last: u32)
+    requires falling { Falling (used_rows ledger.words.now) befores.now }
+    requires last_bound { last ≤ used_rows ledger.words.now }
+    requires sums { Sums ledger.size.hours most_share sums.old }
+    ensures { let l = ledger.entry in
+        let share = T.share l.size.hours l.words.now in
+        Adds (λ h. chain_sum befores.now (share h) last) sums.old sums.new }
+{
+    let mut m = last as usize;
+    // No walk by number: each turn reads where the next row stands.
+    while m != 0 {
+        T::add_share(sums, Entry { ledger, n: m - 1 });
+        m = befores[m - 1] as usize;
+    }
+}
+
 // For each row the last one that counts for it, and the one before each, as references: the library has no heap.
 #[derive(Drop)]
 pub struct Chains<'a, T: Test> {
@@ -47,36 +82,29 @@ impl<'a, T: Test> Chains<'a, T> {
         ensures size { result.ledger.size ≡ ledger.entry.size }
     {
         // No heap in the library: memory for the most rows.
-        let mut buffer = [0u32; MOST_ROWS as usize];
-        let links = &mut buffer[..ledger.used()];
-        T::link_rows(links, ledger);
-        words::clear(lasts);
-        chain(lasts, befores, links);
+        let mut links = [0u32; MOST_ROWS as usize];
+        Chains::over(&mut links[..ledger.used()], lasts, befores, ledger)
+    }
+
+    // The same, with the links in words that are lent.
+    pub(crate) fn over(
+        links: &mut [u32],
+        lasts: &'a mut [u32],
+        befores: &'a mut [u32],
+        ledger: Ledger<'a>,
+    ) -> Chains<'a, T>
+        requires links_len { length links.old ≡ used_rows ledger.words.now }
+        requires lasts_len { length lasts.old ≡ used_rows ledger.words.now + 1 }
+        requires befores_len { length befores.old ≡ used_rows ledger.words.now }
+        ensures words { result.ledger.words.now ≡ ledger.entry.words.now }
+        ensures size { result.ledger.size ≡ ledger.entry.size }
+    {
+        chain_rows::<T>(links, lasts, befores, ledger);
         Chains {
             ledger,
             lasts,
             befores,
             of: PhantomData,
-        }
-    }
-
-    // The shares of the rows of a chain are added, from reference last on.
-    fn add_chain(&self, sums: &mut [u32], last: u32)
-        requires last_bound { last ≤ used_rows self.now.ledger.words.now }
-        requires sums { Sums self.now.ledger.size.hours most_share sums.old }
-        ensures { let l = self.now.ledger in
-            let share = T.share l.size.hours l.words.now in
-            Adds (λ h. chain_sum self.now.befores.now (share h) last) sums.old sums.new }
-    {
-        let mut m = last as usize;
-        // No walk by number: each turn reads where the next row stands.
-        while m != 0 {
-            let entry = Entry {
-                ledger: self.ledger,
-                n: m - 1,
-            };
-            T::add_share(sums, entry);
-            m = self.befores[m - 1] as usize;
         }
     }
 
@@ -95,7 +123,7 @@ impl<'a, T: Test> Chains<'a, T> {
                 n,
             },
         );
-        self.add_chain(sums, self.lasts[n + 1]);
+        add_chain::<T>(sums, self.befores, self.ledger, self.lasts[n + 1]);
     }
 
     // Whether what is tested of row n holds in every hour.

@@ -8,7 +8,7 @@ use native.Mathlib.Omega.{arith}
 use lib.Dec.{leb}
 use lib.ListN.{length, get_or}
 use Rattle.words.specs.Lists.{part, all_below, covered}
-use Rattle.words.proofs.Laws.{all_cong, part_length, part_at}
+use Rattle.words.proofs.Laws.{all_cong, part_at}
 use Rattle.rules.specs.Numbers.{most_path}
 use Rattle.rules.specs.Paths.{posting_at, posted_in}
 use Rattle.rules.proofs.OverPaths.{exceeds}

@@ -1,7 +1,7 @@
 // Sums of a walk over the rows, hour by hour, on a lent slice. A type that holds the memory for them could not lend its
 // hours for writing: no clause can be shown of a lent part of an array.
 ghost use Rattle.std.specs.Prelude.{◌≡◌, ◌<◌, length};
-ghost use Rattle.words.specs.Lists.{word_at};
+ghost use Rattle.words.specs.Lists.{word_at, noughts};
 ghost use Rattle.words.specs.Sums.{Adds, Takes, Summed};
 ghost use Rattle.rules.specs.Numbers.{available_part};
 ghost use Rattle.rules.specs.Layout.{used as used_rows, row, hour_at, standing};
@@ -31,6 +31,7 @@ fn less_at(sums: &mut [u32], start: usize, v: &[u32])
 }
 
 // Available of a row is added, in its span: it is 0 outside.
+#[inline(always)]
 fn add_available(sums: &mut [u32], entry: Entry)
     requires { Sums entry.ledger.size.hours sums.old }
     ensures { let hours = entry.entry.ledger.size.hours in
@@ -42,7 +43,7 @@ fn add_available(sums: &mut [u32], entry: Entry)
 
 // A ledger, and a change that can be made to it.
 #[derive(Clone, Copy)]
-pub(crate) struct Walk<'a> {
+pub struct Walk<'a> {
     pub ledger: Ledger<'a>,
     pub change: Change<'a>,
     ghost changing: { Changing ledger.words.now ledger.size.hours change },
@@ -50,6 +51,7 @@ pub(crate) struct Walk<'a> {
 
 impl<'a> Walk<'a> {
     // What row m holds after the change is added.
+    #[inline(always)]
     fn add_row(self, sums: &mut [u32], m: usize)
         requires m_bound { m < used_rows self.ledger.words.now }
         requires sums { Sums self.ledger.size.hours sums.old }
@@ -78,6 +80,7 @@ impl<'a> Walk<'a> {
     }
 
     // The same, if it counts in the use of path x.
+    #[inline(always)]
     #[tactic(auto, using(crate::proofs::Walk::row_added))]
     fn add_counted(self, sums: &mut [u32], x: u32, m: usize)
         requires m_bound { m < used_rows self.ledger.words.now }
@@ -90,15 +93,31 @@ impl<'a> Walk<'a> {
         }
     }
 
-    // The walk: the sums become the use of path x after the change.
-    pub(crate) fn add_rows(self, sums: &mut [u32], x: u32)
+    // The walk: sums that were 0 become the use of path x after the change.
+    #[inline(always)]
+    fn add_each(self, sums: &mut [u32], x: u32)
+        requires { sums.old ≡ noughts self.ledger.size.hours }
+        ensures { let ledger = self.entry.ledger in
+            Summed ledger.size.hours (λ h. use_by ledger.size.hours ledger.words.now self.entry.change x h) sums.new }
+    {
+        for m in 0..self.ledger.used() {
+            self.add_counted(sums, x, m);
+        }
+    }
+
+    // The sums become the use of path x after the change. What is done is told apart here, before the walk: a walk that
+    // asks it of each row takes up to twice as long.
+    pub fn add_rows(self, sums: &mut [u32], x: u32)
         requires { length sums.old ≡ self.ledger.size.hours }
         ensures { let ledger = self.entry.ledger in
             Summed ledger.size.hours (λ h. use_by ledger.size.hours ledger.words.now self.entry.change x h) sums.new }
     {
         words::clear(sums);
-        for m in 0..self.ledger.used() {
-            self.add_counted(sums, x, m);
+        match self.change.rows {
+            Changed::Nothing => self.add_each(sums, x),
+            Changed::Confirmed { .. } => self.add_each(sums, x),
+            Changed::Relinquished { .. } => self.add_each(sums, x),
+            Changed::Annulled { .. } => self.add_each(sums, x),
         }
     }
 }

@@ -4,7 +4,7 @@ ghost use Rattle.paths.specs.Changes.{is_at, held_then};
 
 // The rows that an action changes.
 #[derive(Clone, Copy)]
-pub(crate) enum Changed {
+pub enum Changed {
     // No row.
     Nothing,
     // The row is CONFIRMED and has the megawatts; the row above, if any, has given them.
@@ -27,7 +27,7 @@ pub(crate) enum Changed {
 
 // The same, with the megawatts from hour start on.
 #[derive(Clone, Copy)]
-pub(crate) struct Change<'a> {
+pub struct Change<'a> {
     pub rows: Changed,
     pub start: usize,
     pub mw: &'a [u32],
@@ -35,7 +35,7 @@ pub(crate) struct Change<'a> {
 
 // What a row holds after a change: as much as before, the megawatts less or more, the megawatts alone, nothing.
 #[derive(Clone, Copy)]
-pub(crate) enum Held {
+pub enum Held {
     Same,
     Less,
     More,
@@ -44,6 +44,7 @@ pub(crate) enum Held {
 }
 
 // A row that may be none is row m.
+#[inline(always)]
 fn is_at(row: Option<usize>, m: usize) -> bool
     ensures { result ≡ is_at row m }
 {
@@ -55,7 +56,8 @@ fn is_at(row: Option<usize>, m: usize) -> bool
 
 impl Changed {
     // Of row m.
-    pub(crate) fn held(self, m: usize) -> Held
+    #[inline(always)]
+    pub fn held(self, m: usize) -> Held
         ensures { result ≡ held_then self m }
     {
         match self {

@@ -12,6 +12,7 @@ use layout::row::Row;
 
 impl Changed {
     // The row is CONFIRMED after the change.
+    #[inline(always)]
     #[tactic(auto, unfolding(crate::specs::Changes::confirmed_after, rules::specs::Moves::is_confirmed))]
     fn is_confirmed(self, row: Row) -> bool
         ensures { let row = row.entry in result ≡ confirmed_after row.size.hours row.words.now self row.n }
@@ -26,6 +27,7 @@ impl Changed {
     }
 
     // It is so and of path x.
+    #[inline(always)]
     fn is_holder(self, row: Row, x: u32) -> bool
         ensures { let row = row.entry in
             result ≡ (confirmed_after row.size.hours row.words.now self row.n && eqb (path (own row)) x) }
@@ -34,8 +36,9 @@ impl Changed {
     }
 
     // The row counts: it is of the path, or a type 5 that is related to such a row.
+    #[inline(always)]
     #[tactic(auto, unfolding(rules::proofs::After::counts_by), using(rules::proofs::Types::derived_type))]
-    pub(crate) fn counts(self, r: Reservation, x: u32) -> bool
+    pub fn counts(self, r: Reservation, x: u32) -> bool
         ensures { let row = r.entry.row in
             let hours = row.size.hours in
             result ≡ counts_by hours row.words.now (confirmed_after hours row.words.now self) x row.n }

@@ -12,6 +12,7 @@ use opening::sums::add_profile;
 
 impl<'a> Rows<'a> {
     // What row j gave back to row m is added.
+    #[inline(always)]
     fn add_gave(self, sums: &mut [u32], marks: &RowMarks, m: usize, j: usize)
         requires j_bound { j < self.used }
         requires sums { Sums self.ledger.size.hours most_sum sums.old }

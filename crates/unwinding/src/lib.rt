@@ -17,6 +17,7 @@ use carrying::Carrying;
 use layout::ledger::Ledger;
 use layout::numbers::USED;
 use layout::sound::{size_of, sound_both};
+use moving::Moved;
 use rows::Rows;
 
 // Three passes, one after another, on a sound ledger and sound postings.
@@ -24,9 +25,10 @@ fn unwinds(rows: Rows, postings: &[u32], refs: &[u32]) -> bool
     requires { sound_both rows.ledger.words.now postings.now ≡ true }
     ensures { result ≡ annuls_in_order rows.entry.ledger.words.now postings.now refs.now }
 {
-    let Some(moved) = rows.all_movable(refs) else {
+    let mut moved = Moved::none();
+    if !rows.note_all(&mut moved, refs) {
         return false;
-    };
+    }
     if !rows.all_fit(&moved, refs) {
         return false;
     }

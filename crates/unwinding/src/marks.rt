@@ -33,6 +33,7 @@ impl RowMarks {
         }
     }
 
+    #[inline(always)]
     #[tactic(auto, unfolding(crate::specs::Marks::marked))]
     pub fn has(&self, n: usize) -> bool
         requires { n < most_rows }
@@ -51,6 +52,7 @@ impl RowMarks {
 }
 
 // The row is still CONFIRMED.
+#[inline(always)]
 #[tactic(auto, unfolding(rules::proofs::Unwound::stays))]
 pub fn stays(row: Row, marks: &RowMarks) -> bool
     ensures { let r = row.entry in result ≡ is_staying r.size.hours r.words.now (marked marks.now) r.n }
@@ -60,6 +62,7 @@ pub fn stays(row: Row, marks: &RowMarks) -> bool
 
 // The row gives its granted back as it is annulled; to row m.
 
+#[inline(always)]
 #[tactic(auto, unfolding(rules::proofs::Unwound::gives))]
 pub fn gives(row: Row) -> bool
     ensures { let r = row.entry in result ≡ is_giving r.size.hours r.words.now r.n }
@@ -67,6 +70,7 @@ pub fn gives(row: Row) -> bool
     row.is_confirmed() && !is_original(row.word(REQTYPE))
 }
 
+#[inline(always)]
 #[tactic(auto, unfolding(rules::proofs::Unwound::gives_to))]
 pub fn gives_to(row: Row, m: usize) -> bool
     ensures { let r = row.entry in result ≡ gives_to r.size.hours r.words.now r.n m }
@@ -86,6 +90,7 @@ impl<'a> Rows<'a> {
     }
 
     // Row m is in the use of path x.
+    #[inline(always)]
     #[tactic(auto, unfolding(rules::proofs::After::counts_by), using(crate::proofs::Counted::redirect_above))]
     pub fn counts(self, marks: &RowMarks, x: u32, m: usize) -> bool
         requires { m < self.used }

@@ -1,9 +1,9 @@
 // The first pass: 4, 11 and 15 of each reference in turn. Rows that go are marked, and so are those that are given
 // something back late.
-ghost use Rattle.std.specs.Prelude.{◌≡◌, true, false, ◌<◌, length, MatchOption};
+ghost use Rattle.std.specs.Prelude.{◌≡◌, true, false, ◌<◌, length, MatchOption, cond};
 ghost use Rattle.rules.specs.Pick.{pick};
 ghost use Rattle.rules.specs.Layout.{related_row};
-ghost use Rattle.rules.proofs.Unwound.{adding, whole_again};
+ghost use Rattle.rules.proofs.Unwound.{adding, none, whole_again};
 ghost use Rattle.unwinding.specs.Order.{movable as is_movable, all_movable, gives_late};
 ghost use Rattle.unwinding.specs.Marks.{marked, Marks, Late};
 
@@ -21,6 +21,19 @@ use rules::Reference;
 pub struct Moved {
     pub gone: RowMarks,
     pub late: RowMarks,
+}
+
+impl Moved {
+    // Of no reference.
+    pub(crate) fn none() -> Moved
+        ensures gone { marked result.gone ≡ none }
+        ensures late { marked result.late ≡ none }
+    {
+        Moved {
+            gone: RowMarks::none(),
+            late: RowMarks::none(),
+        }
+    }
 }
 
 impl<'a> Rows<'a> {
@@ -75,6 +88,29 @@ impl<'a> Rows<'a> {
         }
     }
 
+    // Whether every reference can go; the marks are made in what is lent, which had none, and are not handed on by value.
+    pub(crate) fn note_all(self, moved: &mut Moved, refs: &[u32]) -> bool
+        requires gone { marked moved.old.gone ≡ none }
+        requires late { marked moved.old.late ≡ none }
+        ensures { let hours = self.entry.ledger.size.hours in
+            let words = self.entry.ledger.words.now in
+            cond result
+            ((all_movable hours words refs.now ≡ true)
+            × Marks refs.now moved.new.gone (length refs.now)
+            × Late hours words refs.now moved.new.late (length refs.now))
+            (all_movable hours words refs.now ≡ false) }
+    {
+        for &r in refs {
+            if !self.movable(&moved.gone, r) {
+                return false;
+            }
+            let n = rules::row_of(Reference(r)).0;
+            self.mark_late(&mut moved.late, &moved.gone, n);
+            moved.gone.add(n);
+        }
+        true
+    }
+
     pub fn all_movable(self, refs: &[u32]) -> Option<Moved>
         ensures { let hours = self.entry.ledger.size.hours in
             let words = self.entry.ledger.words.now in
@@ -83,16 +119,10 @@ impl<'a> Rows<'a> {
             × Marks refs.now m.gone (length refs.now)
             × Late hours words refs.now m.late (length refs.now)) }
     {
-        let mut gone = RowMarks::none();
-        let mut late = RowMarks::none();
-        for &r in refs {
-            if !self.movable(&gone, r) {
-                return None;
-            }
-            let n = rules::row_of(Reference(r)).0;
-            self.mark_late(&mut late, &gone, n);
-            gone.add(n);
+        let mut moved = Moved::none();
+        if self.note_all(&mut moved, refs) {
+            return Some(moved);
         }
-        Some(Moved { gone, late })
+        None
     }
 }

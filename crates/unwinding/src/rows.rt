@@ -21,6 +21,7 @@ pub struct Rows<'a> {
 }
 
 impl<'a> Rows<'a> {
+    #[inline(always)]
     pub fn entry(self, n: usize) -> Entry<'a>
         requires { n < self.used }
         ensures ledger { result.ledger ≡ self.entry.ledger }
@@ -32,6 +33,7 @@ impl<'a> Rows<'a> {
         }
     }
 
+    #[inline(always)]
     pub fn row(self, n: usize) -> Row<'a>
         requires { n < self.used }
         ensures words { result.words.now ≡ self.entry.ledger.words.now }
@@ -42,6 +44,7 @@ impl<'a> Rows<'a> {
     }
 
     // Word k of row n.
+    #[inline(always)]
     pub fn word(self, n: usize, k: usize) -> u32
         requires n_bound { n < self.used }
         requires k_bound { k < row_words }
@@ -50,6 +53,7 @@ impl<'a> Rows<'a> {
         self.row(n).word(k)
     }
 
+    #[inline(always)]
     pub fn is_confirmed(self, n: usize) -> bool
         requires { n < self.used }
         ensures { let l = self.entry.ledger in result ≡ is_confirmed (row l.size.hours l.words.now n) }
@@ -58,6 +62,7 @@ impl<'a> Rows<'a> {
     }
 
     // The row that row n is related to.
+    #[inline(always)]
     pub fn related(self, n: usize) -> usize
         requires { n < self.used }
         ensures { let l = self.entry.ledger in result ≡ related_row l.size.hours l.words.now n }
@@ -66,6 +71,7 @@ impl<'a> Rows<'a> {
     }
 
     // Row n's hours of profile p.
+    #[inline(always)]
     pub fn hours(self, n: usize, p: Profile) -> &'a [u32]
         requires { n < self.used }
         ensures { let l = self.entry.ledger in

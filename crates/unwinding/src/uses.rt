@@ -36,6 +36,7 @@ impl<'a> Rows<'a> {
     }
 
     // Row m was in the use of path x, which is row n's, for the sake of row n.
+    #[inline(always)]
     #[tactic(auto, unfolding(crate::specs::Order::freed))]
     fn freed(self, marks: &RowMarks, x: u32, n: usize, m: usize) -> bool
         requires { m < self.used }
@@ -48,6 +49,7 @@ impl<'a> Rows<'a> {
     }
 
     // Its available is taken off.
+    #[inline(always)]
     fn free_row(self, sums: &mut [u32], marks: &RowMarks, x: u32, n: usize, m: usize)
         requires m_bound { m < self.used }
         requires freeing { Freeing self.ledger.size.hours self.ledger.words.now (marked marks.now) x n m sums.old }

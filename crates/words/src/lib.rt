@@ -6,13 +6,6 @@ ghost use Rattle.words.specs.Lists.{part, splice, Apart, word_at, every, every_p
 
 // Word by word: dst becomes src, dst and src together, dst less src, 0.
 
-pub fn copy(dst: &mut [u32], src: &[u32])
-    requires { length src.now ≡ length dst.old }
-    ensures { dst.new ≡ src.now }
-{
-    dst.copy_from_slice(src);
-}
-
 // Each word of dst becomes what f gives of it and src's. Stored by its place: of a walk by `iter_mut().zip` an invariant
 // would have to say what the iterator has left, and that is no plainer.
 fn each_word<F: Fn(u32, u32) -> u32>(dst: &mut [u32], src: &[u32], f: F)
@@ -24,6 +17,14 @@ fn each_word<F: Fn(u32, u32) -> u32>(dst: &mut [u32], src: &[u32], f: F)
     for (i, y) in src.iter().enumerate() {
         dst[i] = f(dst[i], *y);
     }
+}
+
+// No `copy_from_slice`: it would have whoever links the library bring a `memmove`.
+pub fn copy(dst: &mut [u32], src: &[u32])
+    requires { length src.now ≡ length dst.old }
+    ensures { dst.new ≡ src.now }
+{
+    each_word(dst, src, |_, y| y);
 }
 
 pub fn add(dst: &mut [u32], src: &[u32])
@@ -148,5 +149,19 @@ pub fn add_part(l: &mut [u32], to: usize, from: usize, count: usize)
     } else {
         let (front, back) = l.split_at_mut(to);
         add(&mut back[..count], &front[from..from + count]);
+    }
+}
+
+pub fn subtract_part(l: &mut [u32], to: usize, from: usize, count: usize)
+    requires apart { Apart l.old to from count }
+    requires count_value { covered (part l.old from count) (part l.old to count) ≡ true }
+    ensures { l.new ≡ splice l.old to (zip2 ◌-◌ (part l.old to count) (part l.old from count)) }
+{
+    if to + count <= from {
+        let (front, back) = l.split_at_mut(from);
+        subtract(&mut front[to..to + count], &back[..count]);
+    } else {
+        let (front, back) = l.split_at_mut(to);
+        subtract(&mut back[..count], &front[from..from + count]);
     }
 }

@@ -17,19 +17,19 @@ invariant_of-row c =
     let i = row_issued _ _ c.args.k (sym (seller_says _ _ c.args.k c.in_ok-check_seller_status.ensures c.displacing.ensures)) in
     record { in_use = omega (arith, i.0, i.1, c.row_of.ensures) }
 
-pub returns-then-not-firm : goal.returns-then-not-firm
-returns-then-not-firm c =
+pub returns-then-not_firm : goal.returns-then-not_firm
+returns-then-not_firm c =
     firm_fails c.args.k c.in_ok-check_seller_status.ensures c.displacing.ensures
-    c.firm.ensures c.row.ensures.words c.row.ensures.size c.row.ensures.n c.row_of.ensures (simp c.if-not-firm.true)
+    refl c.row.ensures.words c.row.ensures.size c.row.ensures.n c.row_of.ensures (sym c.not_firm.ensures ∙ c.if-not_firm.true)
 
 pub returns-then-bad_greatest : goal.returns-then-bad_greatest
 returns-then-bad_greatest c =
     firm_passes c.args.k c.in_ok-check_seller_status.ensures c.displacing.ensures
-    c.firm.ensures c.row.ensures.words c.row.ensures.size c.row.ensures.n c.row_of.ensures (simp c.if-not-firm.false)
+    refl c.row.ensures.words c.row.ensures.size c.row.ensures.n c.row_of.ensures (sym c.not_firm.ensures ∙ c.if-not_firm.false)
     (hit _ _ _ (sym c.bad_greatest.ensures ∙ c.if-bad_greatest.true))
 
 pub returns : goal.returns
 returns c =
     firm_passes c.args.k c.in_ok-check_seller_status.ensures c.displacing.ensures
-    c.firm.ensures c.row.ensures.words c.row.ensures.size c.row.ensures.n c.row_of.ensures (simp c.if-not-firm.false)
+    refl c.row.ensures.words c.row.ensures.size c.row.ensures.n c.row_of.ensures (sym c.not_firm.ensures ∙ c.if-not_firm.false)
     (skip _ _ _ _ (sym c.bad_greatest.ensures ∙ c.if-bad_greatest.false) refl)

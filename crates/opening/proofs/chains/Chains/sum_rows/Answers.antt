@@ -1,4 +1,5 @@
 use native.Mathlib.Omega.{arith}
+use Rattle.opening.proofs.Chained.{chained_falls}
 use Rattle.opening.proofs.Added.{sums_none, sums_wider, start_own, start_room, last_in, rows_summed}
 use Rattle.opening.proofs.chains.Chains.sum_rows.Goals as goal
 
@@ -7,6 +8,9 @@ add_own-requires g c = sums_wider (omega arith) (sums_none c.args.self.now.ledge
 
 pub add_chain-requires-clause-last_bound : goal.add_chain-requires-clause-last_bound
 add_chain-requires-clause-last_bound g c = last_in c.requires.n_bound (g.T.Test.link c.args.self.now.ledger.size.hours c.args.self.now.ledger.words.now) c.args.self.now.chained
+
+pub add_chain-requires-clause-falling : goal.add_chain-requires-clause-falling
+add_chain-requires-clause-falling g c = chained_falls c.args.self.now.chained
 
 pub add_chain-requires-clause-sums : goal.add_chain-requires-clause-sums
 add_chain-requires-clause-sums g c =

@@ -2,10 +2,10 @@ use Rattle.std.proofs.Common.{arith}
 use Rattle.opening.proofs.Added.{few}
 use Rattle.unwinding.proofs.Movable.{moving_start, moving_fails, moving_row, moving_turn}
 use Rattle.unwinding.proofs.Movable.{moving_done, moving_marks, moving_late}
-use Rattle.unwinding.proofs.rows.Rows.all_movable.Goals as goal
+use Rattle.unwinding.proofs.rows.Rows.note_all.Goals as goal
 
 pub loop-r-init : goal.loop-r-init
-loop-r-init c = moving_start _ _ _ c.none-gone.ensures c.none-late.ensures
+loop-r-init c = moving_start _ _ _ c.requires.gone c.requires.late
 
 pub returns-then-not-movable : goal.returns-then-not-movable
 returns-then-not-movable c = moving_fails c.loop-r.invariant (omega arith) c.movable.ensures c.if-not-movable.true

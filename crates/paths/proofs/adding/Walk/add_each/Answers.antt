@@ -1,11 +1,9 @@
-use mathlib.Core.Path.{ap, ◌∙◌}
 use native.Mathlib.Omega.{arith}
-use Rattle.words.specs.Lists.{noughts}
 use Rattle.paths.proofs.Walk.{walking_start, walking_turn, walking_sums, walking_done}
-use Rattle.paths.proofs.adding.Walk.add_rows.Goals as goal
+use Rattle.paths.proofs.adding.Walk.add_each.Goals as goal
 
 pub loop-m-init : goal.loop-m-init
-loop-m-init c = walking_start _ _ _ _ _ (c.clear.ensures ∙ ap noughts c.requires)
+loop-m-init c = walking_start _ _ _ _ _ c.requires
 
 pub add_counted-requires-clause-sums : goal.add_counted-requires-clause-sums
 add_counted-requires-clause-sums c =

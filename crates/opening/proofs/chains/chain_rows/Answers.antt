@@ -3,7 +3,7 @@ use lib.ListN.{length}
 use Rattle.words.specs.Lists.{noughts}
 use Rattle.words.proofs.Laws.{noughts_length}
 use Rattle.opening.proofs.Added.{links_unchained, links_chained}
-use Rattle.opening.proofs.chains.Chains.new.Goals as goal
+use Rattle.opening.proofs.chains.chain_rows.Goals as goal
 
 pub chain-requires-clause-unchained : goal.chain-requires-clause-unchained
 chain-requires-clause-unchained g c =
@@ -13,5 +13,5 @@ pub chain-requires-clause-lasts_value : goal.chain-requires-clause-lasts_value
 chain-requires-clause-lasts_value g c =
     c.clear.ensures ∙ ap noughts (sym (ap length c.clear.ensures ∙ noughts_length _))
 
-pub invariant_of-result : goal.invariant_of-result
-invariant_of-result g c = record { chained = links_chained c.args.ledger.sound_at _ c.link_rows.ensures.links c.chain.ensures }
+pub returns : goal.returns
+returns g c = links_chained c.args.ledger.sound_at _ c.link_rows.ensures.links c.chain.ensures
