@@ -88,7 +88,8 @@ impl<'a> Rows<'a> {
         }
     }
 
-    // Whether every reference can go; the marks are made in what is lent, which had none, and are not handed on by value.
+    // Whether every reference can go. What is lent had no mark, and has those of `Moved` then: given back by value they
+    // would be copied by a `memcpy`, which whoever links the library would have to bring.
     pub(crate) fn note_all(self, moved: &mut Moved, refs: &[u32]) -> bool
         requires gone { marked moved.old.gone ≡ none }
         requires late { marked moved.old.late ≡ none }
