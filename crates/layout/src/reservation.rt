@@ -10,7 +10,7 @@ ghost use Rattle.layout.specs.Profiles.{part_of};
 ghost use Rattle.layout.specs.Placed.{Placed};
 
 use crate::class::is_original;
-use crate::numbers::{GRANTED_GIVEN, REQTYPE, START, STOP};
+use crate::numbers::{GRANTED_GIVEN, REQTYPE, STOP};
 use crate::profile::Profile;
 use crate::row::Row;
 use crate::size::Size;
@@ -53,7 +53,7 @@ impl<'a> Reservation<'a> {
         ensures is { result ≡ span_hours (own self.entry.row) }
         ensures most { result ≤ most_hours }
     {
-        (self.row.word(STOP) - self.row.word(START)) as usize
+        self.row.word(STOP) as usize - self.row.start()
     }
 
     // The span's hours of its profile p.

@@ -1,5 +1,6 @@
 // Sums of a walk over the rows, hour by hour, on a lent slice. A type that holds the memory for them could not lend its
-// hours for writing: no clause can be shown of a lent part of an array.
+// hours for writing: no clause can be shown of a lent part of an array. The walks are compiled into the functions that
+// have the memory: there the compiler sees that no row lies in it, and need not ask so before it adds.
 ghost use Rattle.std.specs.Prelude.{◌≡◌, ◌<◌, length};
 ghost use Rattle.words.specs.Lists.{word_at, noughts};
 ghost use Rattle.words.specs.Sums.{Adds, Takes, Summed};
@@ -50,7 +51,8 @@ pub struct Walk<'a> {
 }
 
 impl<'a> Walk<'a> {
-    // What row m holds after the change is added.
+    // What row m holds after the change is added. Available is added in one place for the three that have it: with more
+    // loops the compiler no longer sees whose memory the sums are.
     #[inline(always)]
     fn add_row(self, sums: &mut [u32], m: usize)
         requires m_bound { m < used_rows self.ledger.words.now }
@@ -64,18 +66,18 @@ impl<'a> Walk<'a> {
             ledger: self.ledger,
             n: m,
         };
-        match c.rows.held(m) {
-            Held::Same => add_available(sums, entry),
-            Held::Less => {
-                add_available(sums, entry);
-                less_at(sums, c.start, c.mw);
-            }
-            Held::More => {
-                add_available(sums, entry);
-                add_at(sums, c.start, c.mw);
-            }
-            Held::Whole => add_at(sums, c.start, c.mw),
+        let held = c.rows.held(m);
+        match held {
             Held::Nought => {}
+            Held::Whole => add_at(sums, c.start, c.mw),
+            Held::Same | Held::Less | Held::More => {
+                add_available(sums, entry);
+                match held {
+                    Held::Less => less_at(sums, c.start, c.mw),
+                    Held::More => add_at(sums, c.start, c.mw),
+                    _ => {}
+                }
+            }
         }
     }
 
@@ -106,7 +108,7 @@ impl<'a> Walk<'a> {
     }
 
     // The sums become the use of path x after the change. What is done is told apart here, before the walk: a walk that
-    // asks it of each row takes up to twice as long.
+    // asks it of each row takes up to twice as long. With one caller, it is compiled into that.
     pub fn add_rows(self, sums: &mut [u32], x: u32)
         requires { length sums.old ≡ self.ledger.size.hours }
         ensures { let ledger = self.entry.ledger in
@@ -123,6 +125,7 @@ impl<'a> Walk<'a> {
 }
 
 // Where nothing changes: the sums become the use of path x.
+#[inline(always)]
 pub fn add_use(sums: &mut [u32], ledger: Ledger, x: u32)
     requires { length sums.old ≡ ledger.size.hours }
     ensures { let ledger = ledger.entry in
@@ -133,5 +136,6 @@ pub fn add_use(sums: &mut [u32], ledger: Ledger, x: u32)
         start: 0,
         mw: &[],
     };
-    Walk { ledger, change }.add_rows(sums, x);
+    words::clear(sums);
+    Walk { ledger, change }.add_each(sums, x);
 }

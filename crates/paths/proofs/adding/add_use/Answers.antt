@@ -11,13 +11,13 @@ nothing : within most_megawatts [] ≡ true
 unfolding within every
 nothing = refl
 
-pub invariant_of-add_rows : goal.invariant_of-add_rows
-invariant_of-add_rows c = record { changing = unchanged_fits _ _ _ refl (omega arith) nothing }
+pub invariant_of-add_each : goal.invariant_of-add_each
+invariant_of-add_each c = record { changing = unchanged_fits _ _ _ refl (omega arith) nothing }
 
 pub returns : goal.returns
 returns c =
     let l = c.args.ledger in
     record {
-      long = c.add_rows.ensures.long;
-      each = λ h lt. c.add_rows.ensures.each h lt ∙ use_now l.size.hours l.words.now _ refl c.args.x h;
+      long = c.add_each.ensures.long;
+      each = λ h lt. c.add_each.ensures.each h lt ∙ use_now l.size.hours l.words.now _ refl c.args.x h;
     }
